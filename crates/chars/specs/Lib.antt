@@ -1,0 +1,4 @@
+pub mod Limits
+pub mod Choice
+pub mod Character
+pub mod Stream
