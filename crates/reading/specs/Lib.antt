@@ -1,0 +1,3 @@
+pub mod Entity
+pub mod Making
+pub mod Reading
