@@ -1,0 +1,5 @@
+pub mod Table
+pub mod Cells
+pub mod Checking
+pub mod Run
+pub mod Drafts

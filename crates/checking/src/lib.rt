@@ -1,0 +1,1 @@
+// The check: document 01, "Cells and operations" and "Order".
