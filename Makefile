@@ -1,0 +1,19 @@
+# make show    runs the main job
+# make test    all tests; the last line is 'N passed, 0 failed'
+# make vectors holds the definitions against tests/vectors
+
+VECTORS = tests/vectors/read.txt tests/vectors/check.txt tests/vectors/tail.txt tests/vectors/step.txt
+
+.PHONY: show test vectors setup
+
+show: setup
+	@tools/vectors --show examples/worked.txt
+
+test: setup
+	@tests/run
+
+vectors: setup
+	@tools/vectors $(VECTORS)
+
+setup:
+	@tools/setup
