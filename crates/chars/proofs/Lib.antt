@@ -1,1 +1,5 @@
 pub mod Computes
+pub mod Cases
+pub mod Same
+pub mod Sequences
+pub mod Extent

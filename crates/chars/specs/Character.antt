@@ -1,9 +1,9 @@
 -- One character, from the bytes at a place on (004, section 2; document 01, "From bytes to characters").
 use Prim.Native.Nat.{ℕ, zero, suc, _+_, _-_, _*_, _/_, _%_}
 use mathlib.Core.Bool.{Bool, true, false}
-use mathlib.Core.List.{List, [], _∷_}
+use mathlib.Core.List.{List, [], _∷_, _++_}
 use lib.Dec.{leb, ltb, eqb}
-use lib.ListN.{getD, drop}
+use lib.ListN.{length, getD, drop, replicate}
 use Rattle.chars.specs.Choice.{if_then_else_, within}
 use Rattle.chars.specs.declared.Character.{Character}
 use Rattle.chars.specs.declared.Character.the-variants.{Clean, Refused, End}
@@ -19,18 +19,25 @@ continued (suc n) low high number (b ∷ bytes) place =
     then continued n 0x80 0xBF (number * 64 + (b - 0x80)) bytes (suc place)
     else Malformed place
 
--- What the bytes from `place` on are by RFC 3629, section 4: a number and the byte after its sequence, or the byte at which they can no
--- longer be the start of a sequence. The second byte's range shuts out overlong forms (after E0 and F0) and numbers above 10FFFF (after F4).
--- Surrogates, which the RFC forbids after ED, are let through: 004 decides about them.
+-- The second byte of a sequence that begins with `b` (RFC 3629, section 4): from A0 after E0 and from 90 after F0, which shuts out
+-- overlong forms, and up to 8F after F4, which shuts out numbers above 10FFFF. Surrogates, which the RFC forbids after ED, are let
+-- through: 004 decides about them.
+unfoldable pub lowest : (b : ℕ) → ℕ
+lowest b = if eqb b 0xE0 then 0xA0 else if eqb b 0xF0 then 0x90 else 0x80
+
+unfoldable pub highest : (b : ℕ) → ℕ
+highest b = if eqb b 0xF4 then 0x8F else 0xBF
+
+-- What the bytes from `place` on are by RFC 3629, section 4: a number and the byte after its sequence, or the byte at which they can
+-- no longer be the start of a sequence.
 unfoldable pub sequence : List ℕ → (place : ℕ) → Sequence
 sequence [] place = Malformed place
 sequence (b ∷ bytes) place =
     if ltb b 0x80 then Whole b (suc place)
     else if ltb b 0xC2 then Malformed place
-    else if ltb b 0xE0 then continued 1 0x80 0xBF (b - 0xC0) bytes (suc place)
-    else if ltb b 0xF0 then continued 2 (if eqb b 0xE0 then 0xA0 else 0x80) 0xBF (b - 0xE0) bytes (suc place)
-    else if ltb b 0xF5
-    then continued 3 (if eqb b 0xF0 then 0x90 else 0x80) (if eqb b 0xF4 then 0x8F else 0xBF) (b - 0xF0) bytes (suc place)
+    else if ltb b 0xE0 then continued 1 (lowest b) (highest b) (b - 0xC0) bytes (suc place)
+    else if ltb b 0xF0 then continued 2 (lowest b) (highest b) (b - 0xE0) bytes (suc place)
+    else if ltb b 0xF5 then continued 3 (lowest b) (highest b) (b - 0xF0) bytes (suc place)
     else Malformed place
 
 -- a high surrogate
@@ -82,3 +89,20 @@ encoded n =
     else if ltb n 0x800 then (0xC0 + n / 64) ∷ (0x80 + n % 64) ∷ []
     else if ltb n 0x10000 then (0xE0 + n / 4096) ∷ (0x80 + n / 64 % 64) ∷ (0x80 + n % 64) ∷ []
     else (0xF0 + n / 262144) ∷ (0x80 + n / 4096 % 64) ∷ (0x80 + n / 64 % 64) ∷ (0x80 + n % 64) ∷ []
+
+-- the same in four bytes, with zeros behind
+unfoldable pub padded : List ℕ → List ℕ
+padded bytes = bytes ++ replicate (4 - length bytes) 0
+
+-- What document 01 gives for each answer about a character: the number of refusal and its place, or the character's number and the
+-- byte after it. Where the draft ends, at `length`, whoever wants a character is refused with 7.
+pub record Told : Type 0 where
+  pub refusal : ℕ
+  pub place : ℕ
+  pub number : ℕ
+  pub after : ℕ
+
+unfoldable pub told : (length : ℕ) → Character → Told
+told length (Clean number after) = record { refusal = 0; place = 0; number = number; after = after }
+told length (Refused number place) = record { refusal = number; place = place; number = 0; after = 0 }
+told length End = record { refusal = 7; place = length; number = 0; after = 0 }
