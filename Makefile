@@ -2,7 +2,7 @@
 # make test    all tests; the last line is 'N passed, 0 failed'
 # make vectors holds the definitions against tests/vectors
 
-VECTORS = tests/vectors/read.txt tests/vectors/check.txt tests/vectors/tail.txt tests/vectors/step.txt
+VECTORS = $(addprefix tests/vectors/,read.txt check.txt tail.txt step.txt limits.txt) examples/worked.txt
 
 .PHONY: show test vectors setup
 
