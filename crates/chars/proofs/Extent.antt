@@ -99,6 +99,17 @@ pub encoded-four :
 unfolding encoded
 encoded-four n g = simp (le-ltb n 0x80 (omega arith), le-ltb n 0x800 (omega arith), le-ltb n 0x10000 g)
 
+pub encoded-size : (n : ℕ) → (1 ≤ length (encoded n)) × (length (encoded n) ≤ 4)
+unfolding encoded
+encoded-size n =
+    either (ltb n 0x80)
+    (λ t. rw t (omega arith, omega arith))
+    (λ t. rw t (either (ltb n 0x800)
+    (λ t. rw t (omega arith, omega arith))
+    (λ t. rw t (either (ltb n 0x10000)
+    (λ t. rw t (omega arith, omega arith))
+    (λ t. rw t (omega arith, omega arith))))))
+
 -- The range of the second byte, with the bits that the first byte gives: E0 and F0 leave no overlong form, F4 nothing above 10FFFF.
 lowest-least : (b : ℕ) → 0x80 ≤ lowest b
 unfolding lowest
@@ -134,6 +145,8 @@ pub record Sound (bytes : List ℕ) (place number after : ℕ) : Type 0 where
   pub small : number < 0x110000
   pub so-many : after ≡ place + length (encoded number)
   pub there : after ≤ place + length bytes
+  -- a number of US-ASCII is its own byte
+  pub lone : number < 0x80 → getD bytes 0 0 ≡ number
 
 module _ (b : ℕ) (bytes : List ℕ) (place number after : ℕ) where
   abbrev rest : (n base : ℕ) → Sequence
@@ -151,6 +164,7 @@ module _ (b : ℕ) (bytes : List ℕ) (place number after : ℕ) where
         small = omega arith;
         so-many = omega (arith, r .so-many, ap length (encoded-two number at-least at-most));
         there = omega (arith, r .there, ap length (f .are));
+        lone = λ h. absurd (omega arith);
       }
 
   three : 0xE0 ≤ b → b < 0xF0 → rest 2 0xE0 ≡ Whole number after → Sound (b ∷ bytes) place number after
@@ -166,6 +180,7 @@ module _ (b : ℕ) (bytes : List ℕ) (place number after : ℕ) where
         small = omega arith;
         so-many = omega (arith, r .so-many, ap length (encoded-three number at-least at-most));
         there = omega (arith, r .there, ap length (f .are));
+        lone = λ h. absurd (omega arith);
       }
 
   four : 0xF0 ≤ b → b ≤ 0xF4 → rest 3 0xF0 ≡ Whole number after → Sound (b ∷ bytes) place number after
@@ -181,6 +196,7 @@ module _ (b : ℕ) (bytes : List ℕ) (place number after : ℕ) where
         small = at-most;
         so-many = omega (arith, r .so-many, ap length (encoded-four number at-least));
         there = omega (arith, r .there, ap length (f .are));
+        lone = λ h. absurd (omega arith);
       }
 
 pub sequence-sound :
@@ -197,6 +213,7 @@ sequence-sound (b ∷ bytes) place number after e =
       small = omega arith;
       so-many = omega (arith, ap length (encoded-one number (omega arith)));
       there = omega arith;
+      lone = λ h. p;
     })
     (λ t e. by-test (ltb b 0xC2)
     (λ t e. malformed e)

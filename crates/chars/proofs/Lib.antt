@@ -3,3 +3,5 @@ pub mod Cases
 pub mod Same
 pub mod Sequences
 pub mod Extent
+pub mod Characters
+pub mod Streams

@@ -1,0 +1,143 @@
+-- A character that cleaning gives: where it ends, and which number it can have. It takes one to six bytes and never reaches past the
+-- draft, since its sequences do not; its number is never nul, CR or a surrogate, since those are refused or joined.
+use mathlib.Core.Path.{_≡_, refl, sym, _∙_, ap}
+use mathlib.Core.Bool.{Bool, true, false, _&&_, true≢false}
+use mathlib.Core.List.{List, [], _∷_}
+use Prim.Native.Nat.{ℕ, zero, suc, _+_, _-_, _*_, _<_, _≤_}
+use native.Mathlib.Omega.{arith}
+use lib.Dec.{leb, eqb}
+use lib.ListN.{length, getD, drop, length-drop}
+use borrow.Author.Tests.{le-leb, leb-true, leb-false, eqb-true, eqb-false}
+use Rattle.chars.specs.Choice.{if_then_else_, within}
+use Rattle.chars.specs.Character.{sequence, high, low, paired, judged, carriage, character, characterAt, encoded}
+use Rattle.chars.specs.declared.Sequence.{Sequence}
+use Rattle.chars.specs.declared.Sequence.the-variants.{Whole, Malformed}
+use Rattle.chars.specs.declared.Character.{Character}
+use Rattle.chars.specs.declared.Character.the-variants.{Clean, Refused, End}
+use Rattle.chars.proofs.Cases.{by-test, either}
+use Rattle.chars.proofs.Extent.{within-true, Sound, sequence-sound, encoded-one, encoded-three, encoded-size}
+
+-- a refusal and the end are no character
+refused : {P : Type 0} {bad place number after : ℕ} → Refused bad place ≡ Clean number after → P
+refused e = absurd (let z : _≡_ {A = ℕ} 0 1 = cc in omega arith)
+
+ended : {P : Type 0} {number after : ℕ} → End ≡ Clean number after → P
+ended e = absurd (let z : _≡_ {A = ℕ} 0 1 = cc in omega arith)
+
+-- what is known of a number outside a range
+pub outside : (from to n : ℕ) → within from to n ≡ false → from ≤ n → n ≤ to → ⊥
+outside from to n t g h = true≢false (rw (le-leb from n g, le-leb n to h) at t)
+
+pub record Is (bytes : List ℕ) (place number after : ℕ) : Type 0 where
+  pub on : place < after
+  pub most : after ≤ place + 6
+  pub there : after ≤ place + length bytes
+  pub small : number < 0x110000
+  pub no-nul : 0 < number
+  pub no-return : number ≡ 0x0D → ⊥
+  pub no-surrogate : 0xD800 ≤ number → number ≤ 0xDFFF → ⊥
+  -- a character of US-ASCII other than LF is its own byte
+  pub single : number < 0x80 → (number ≡ 0x0A → ⊥) → (after ≡ place + 1) × (getD bytes 0 0 ≡ number)
+
+-- CR at `place`, with LF behind it
+returned :
+    (b : ℕ) (behind : List ℕ) (place number after : ℕ) → carriage place behind ≡ Clean number after
+    → Is (b ∷ behind) place number after
+unfolding carriage
+returned b [] place number after e = refused e
+returned b (d ∷ behind) place number after e =
+    by-test (eqb d 0x0A)
+    (λ t e.
+    let p : 0x0A ≡ number = cc in
+    let q : place + 2 ≡ after = cc in
+    record {
+      on = omega arith;
+      most = omega arith;
+      there = omega arith;
+      small = omega arith;
+      no-nul = omega arith;
+      no-return = λ h. omega arith;
+      no-surrogate = λ g h. omega arith;
+      single = λ g h. absurd (h (sym p));
+    })
+    (λ t e. refused e)
+    e
+
+-- a high surrogate in three bytes, and what stands behind it
+joined :
+    (bytes : List ℕ) (place v a number after : ℕ) (s : Sequence) → Sound bytes place v a → high v ≡ true
+    → sequence (drop (a - place) bytes) a ≡ s → paired place v s ≡ Clean number after → Is bytes place number after
+unfolding paired
+joined bytes place v a number after (Malformed bad) first t q e = refused e
+joined bytes place v a number after (Whole w c) first t q e =
+    by-test (low w)
+    (λ l e.
+    let r = within-true 0xD800 0xDBFF v t in
+    let k = within-true 0xDC00 0xDFFF w l in
+    let second = sequence-sound (drop (a - place) bytes) a w c q in
+    let three = ap length (encoded-three v (omega arith) (omega arith)) in
+    let three′ = ap length (encoded-three w (omega arith) (omega arith)) in
+    let left = length-drop (a - place) bytes in
+    let p : 0x10000 + (v - 0xD800) * 0x400 + (w - 0xDC00) ≡ number = cc in
+    let q : c ≡ after = cc in
+    record {
+      on = omega arith;
+      most = omega arith;
+      there = omega arith;
+      small = omega arith;
+      no-nul = omega arith;
+      no-return = λ h. omega arith;
+      no-surrogate = λ g h. omega arith;
+      single = λ g h. absurd (omega arith);
+    })
+    (λ l e. refused e)
+    e
+
+-- a sequence that is neither nul nor CR
+plainly :
+    (bytes : List ℕ) (place number after : ℕ) (s : Sequence) → sequence bytes place ≡ s → (getD bytes 0 0 ≡ 0 → ⊥)
+    → (getD bytes 0 0 ≡ 0x0D → ⊥) → judged place s bytes ≡ Clean number after → Is bytes place number after
+unfolding judged
+plainly bytes place number after (Malformed bad) q n r e = refused e
+plainly bytes place number after (Whole v a) q n r e =
+    let first = sequence-sound bytes place v a q in
+    by-test (high v)
+    (λ t e. joined bytes place v a number after (sequence (drop (a - place) bytes) a) first t refl e)
+    (λ t e. by-test (low v)
+    (λ l e. refused e)
+    (λ l e.
+    let p : v ≡ number = cc in
+    let q : a ≡ after = cc in
+    let sized = encoded-size v in
+    record {
+      on = omega arith;
+      most = omega arith;
+      there = omega arith;
+      small = omega arith;
+      no-nul =
+          either (eqb v 0)
+          (λ z. let is = eqb-true v 0 z in absurd (n (first .lone (omega arith) ∙ is)))
+          (λ z. omega (arith, eqb-false v 0 z));
+      no-return = λ h. r (first .lone (omega arith) ∙ p ∙ h);
+      no-surrogate =
+          λ g h.
+          either (leb v 0xDBFF)
+          (λ z. outside 0xD800 0xDBFF v t (omega arith) (leb-true v 0xDBFF z))
+          (λ z. outside 0xDC00 0xDFFF v l (leb-false v 0xDBFF z) (omega arith));
+      single = λ g h. (omega (arith, ap length (encoded-one v (omega arith))), first .lone (omega arith) ∙ p);
+    })
+    e)
+    e
+
+pub character-is :
+    (bytes : List ℕ) (place number after : ℕ) → character bytes place ≡ Clean number after → Is bytes place number after
+unfolding character
+character-is [] place number after e = ended e
+character-is (b ∷ bytes) place number after e =
+    by-test (eqb b 0)
+    (λ t e. refused e)
+    (λ t e. by-test (eqb b 0x0D)
+    (λ r e. returned b bytes place number after e)
+    (λ r e. plainly (b ∷ bytes) place number after (sequence (b ∷ bytes) place) refl (eqb-false b 0 t) (eqb-false b 0x0D r) e)
+    e)
+    e
