@@ -36,16 +36,18 @@ pub record Is (bytes : List ℕ) (place number after : ℕ) : Type 0 where
   pub no-nul : 0 < number
   pub no-return : number ≡ 0x0D → ⊥
   pub no-surrogate : 0xD800 ≤ number → number ≤ 0xDFFF → ⊥
-  -- a character of US-ASCII other than LF is its own byte
-  pub single : number < 0x80 → (number ≡ 0x0A → ⊥) → (after ≡ place + 1) × (getD bytes 0 0 ≡ number)
+  -- CR gives LF
+  pub returned : getD bytes 0 0 ≡ 0x0D → number ≡ 0x0A
+  -- any other character of US-ASCII is its own byte
+  pub single : number < 0x80 → (getD bytes 0 0 ≡ 0x0D → ⊥) → (after ≡ place + 1) × (getD bytes 0 0 ≡ number)
 
 -- CR at `place`, with LF behind it
-returned :
-    (b : ℕ) (behind : List ℕ) (place number after : ℕ) → carriage place behind ≡ Clean number after
+with-line :
+    (b : ℕ) (behind : List ℕ) (place number after : ℕ) → b ≡ 0x0D → carriage place behind ≡ Clean number after
     → Is (b ∷ behind) place number after
 unfolding carriage
-returned b [] place number after e = refused e
-returned b (d ∷ behind) place number after e =
+with-line b [] place number after r e = refused e
+with-line b (d ∷ behind) place number after r e =
     by-test (eqb d 0x0A)
     (λ t e.
     let p : 0x0A ≡ number = cc in
@@ -58,18 +60,19 @@ returned b (d ∷ behind) place number after e =
       no-nul = omega arith;
       no-return = λ h. omega arith;
       no-surrogate = λ g h. omega arith;
-      single = λ g h. absurd (h (sym p));
+      returned = λ h. sym p;
+      single = λ g h. absurd (h r);
     })
     (λ t e. refused e)
     e
 
 -- a high surrogate in three bytes, and what stands behind it
 joined :
-    (bytes : List ℕ) (place v a number after : ℕ) (s : Sequence) → Sound bytes place v a → high v ≡ true
+    (bytes : List ℕ) (place v a number after : ℕ) (s : Sequence) → Sound bytes place v a → (getD bytes 0 0 ≡ 0x0D → ⊥) → high v ≡ true
     → sequence (drop (a - place) bytes) a ≡ s → paired place v s ≡ Clean number after → Is bytes place number after
 unfolding paired
-joined bytes place v a number after (Malformed bad) first t q e = refused e
-joined bytes place v a number after (Whole w c) first t q e =
+joined bytes place v a number after (Malformed bad) first nr t q e = refused e
+joined bytes place v a number after (Whole w c) first nr t q e =
     by-test (low w)
     (λ l e.
     let r = within-true 0xD800 0xDBFF v t in
@@ -88,6 +91,7 @@ joined bytes place v a number after (Whole w c) first t q e =
       no-nul = omega arith;
       no-return = λ h. omega arith;
       no-surrogate = λ g h. omega arith;
+      returned = λ h. absurd (nr h);
       single = λ g h. absurd (omega arith);
     })
     (λ l e. refused e)
@@ -102,7 +106,7 @@ plainly bytes place number after (Malformed bad) q n r e = refused e
 plainly bytes place number after (Whole v a) q n r e =
     let first = sequence-sound bytes place v a q in
     by-test (high v)
-    (λ t e. joined bytes place v a number after (sequence (drop (a - place) bytes) a) first t refl e)
+    (λ t e. joined bytes place v a number after (sequence (drop (a - place) bytes) a) first r t refl e)
     (λ t e. by-test (low v)
     (λ l e. refused e)
     (λ l e.
@@ -124,6 +128,7 @@ plainly bytes place number after (Whole v a) q n r e =
           either (leb v 0xDBFF)
           (λ z. outside 0xD800 0xDBFF v t (omega arith) (leb-true v 0xDBFF z))
           (λ z. outside 0xDC00 0xDFFF v l (leb-false v 0xDBFF z) (omega arith));
+      returned = λ h. absurd (r h);
       single = λ g h. (omega (arith, ap length (encoded-one v (omega arith))), first .lone (omega arith) ∙ p);
     })
     e)
@@ -137,7 +142,39 @@ character-is (b ∷ bytes) place number after e =
     by-test (eqb b 0)
     (λ t e. refused e)
     (λ t e. by-test (eqb b 0x0D)
-    (λ r e. returned b bytes place number after e)
+    (λ r e. with-line b bytes place number after (eqb-true b 0x0D r) e)
     (λ r e. plainly (b ∷ bytes) place number after (sequence (b ∷ bytes) place) refl (eqb-false b 0 t) (eqb-false b 0x0D r) e)
+    e)
+    e
+
+-- Only where no byte is left has the draft ended: every byte is a character or a refusal.
+no-end : {P : Type 0} {bad place : ℕ} → Refused bad place ≡ End → P
+no-end e = absurd (let z : _≡_ {A = ℕ} 0 1 = cc in omega arith)
+
+clean-no-end : {P : Type 0} {number after : ℕ} → Clean number after ≡ End → P
+clean-no-end e = absurd (let z : _≡_ {A = ℕ} 0 1 = cc in omega arith)
+
+paired-goes-on : (place number : ℕ) (s : Sequence) → paired place number s ≡ End → ⊥
+unfolding paired
+paired-goes-on place number (Malformed bad) e = no-end e
+paired-goes-on place number (Whole second after) e = by-test (low second) (λ t e. clean-no-end e) (λ t e. no-end e) e
+
+judged-goes-on : (place : ℕ) (s : Sequence) (bytes : List ℕ) → judged place s bytes ≡ End → ⊥
+unfolding judged
+judged-goes-on place (Malformed bad) bytes e = no-end e
+judged-goes-on place (Whole number after) bytes e =
+    by-test (high number)
+    (λ t e. paired-goes-on place number (sequence (drop (after - place) bytes) after) e)
+    (λ t e. by-test (low number) (λ t e. no-end e) (λ t e. clean-no-end e) e)
+    e
+
+pub goes-on : (b : ℕ) (bytes : List ℕ) (place : ℕ) → character (b ∷ bytes) place ≡ End → ⊥
+unfolding character carriage
+goes-on b bytes place e =
+    by-test (eqb b 0)
+    (λ t e. no-end e)
+    (λ t e. by-test (eqb b 0x0D)
+    (λ r e. by-test (eqb (getD bytes 0 0) 0x0A) (λ t e. clean-no-end e) (λ t e. no-end e) e)
+    (λ r e. judged-goes-on place (sequence (b ∷ bytes) place) (b ∷ bytes) e)
     e)
     e

@@ -5,15 +5,16 @@ use mathlib.Core.List.{List, [], _∷_}
 use Prim.Native.Nat.{ℕ, zero, suc, _+_, _-_, _<_, _≤_, min}
 use native.Mathlib.Omega.{arith}
 use native.Mathlib.Numerals.{add-one}
-use lib.Dec.{eqb, ltb}
+use lib.Dec.{leb, eqb, ltb}
 use lib.ListN.{length, getD, drop, length-drop, drop-of-length-le}
 use lib.Seq.{drop-cons, drop-drop}
-use borrow.Author.Tests.{ne-eqb, lt-ltb, lt-leb}
-use Rattle.chars.specs.Character.{sequence, judged, character, characterAt}
+use borrow.Author.Tests.{ne-eqb, lt-leb, leb-true, leb-false}
+use Rattle.chars.specs.Character.{judged, character, characterAt, told}
 use Rattle.chars.specs.Stream.{Stream, next, stop, begun, stream, streamAt}
 use Rattle.chars.specs.declared.Character.{Character}
 use Rattle.chars.specs.declared.Character.the-variants.{Clean, Refused, End}
-use Rattle.chars.proofs.Characters.{Is, character-is}
+use Rattle.chars.proofs.Characters.{Is, character-is, goes-on}
+use Rattle.chars.proofs.Cases.{either}
 use Rattle.chars.proofs.Sequences.{single}
 
 passed :
@@ -74,3 +75,32 @@ module _ (draft : List ℕ) (i : ℕ) where
       rw (drop-cons draft i 0 h)
       (simp (ne-eqb b 0 (λ e. omega arith), ne-eqb b 0x0D r)
       (rw (← drop-cons draft i 0 h, single draft i h l) (simp (lt-leb 0xD800 b (omega arith), lt-leb 0xDC00 b (omega arith)))))
+
+  -- the draft ends where its bytes do
+  pub ended : characterAt draft i ≡ End → length draft ≤ i
+  unfolding characterAt
+  ended e =
+      either (leb (length draft) i)
+      (λ t. leb-true (length draft) i t)
+      (λ t. absurd (goes-on _ _ i (rw (drop-cons draft i 0 (leb-false (length draft) i t)) at e)))
+
+  -- A place with no character: the stream stops there, with the number and place that document 01 gives.
+  stopped :
+      (answer : Character) → characterAt draft i ≡ answer → ((number after : ℕ) → answer ≡ Clean number after → ⊥)
+      → streamAt draft i ≡ stop (told (length draft) answer .refusal) (told (length draft) answer .place)
+  unfolding told
+  stopped (Clean number after) e none = absurd (none number after refl)
+  stopped (Refused number place) e none =
+      either (leb (length draft) i)
+      (λ t.
+      let gone : characterAt draft i ≡ End =
+      unfold characterAt character in rw (drop-of-length-le draft (leb-true (length draft) i t)) in
+      absurd (let z : _≡_ {A = ℕ} 0 1 = cc in omega arith))
+      (λ t. at-refusal number place e (leb-false (length draft) i t))
+  stopped End e none = at-end (ended e)
+
+  pub at-none :
+      ((number after : ℕ) → characterAt draft i ≡ Clean number after → ⊥)
+      → streamAt draft i
+      ≡ stop (told (length draft) (characterAt draft i) .refusal) (told (length draft) (characterAt draft i) .place)
+  at-none none = stopped (characterAt draft i) refl none

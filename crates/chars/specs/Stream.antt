@@ -45,7 +45,6 @@ start draft = if same (take 3 draft) mark then 3 else 0
 unfoldable pub clean : (n : ℕ) → Stream → List ℕ
 clean n (stop refusal place) = []
 clean n (next number place after rest) =
-    elim (leb (length (encoded number)) n) [
-      | true ↦ encoded number ++ clean (n - length (encoded number)) rest
-      | false ↦ []
-    ]
+    let bytes = encoded number in
+    let more = bytes ++ clean (n - length bytes) rest in
+    if leb (length bytes) n then more else []

@@ -1,1 +1,5 @@
 pub mod Computes
+pub mod Table
+pub mod Passing
+pub mod Classes
+pub mod Skipping

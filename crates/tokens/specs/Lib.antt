@@ -1,4 +1,5 @@
 pub mod Sorts
 pub mod Tokens
+pub mod Runs
 pub mod Step
 pub mod Tail

@@ -20,7 +20,7 @@ unfoldable pub blank : Stream → Tail
 blank (stop refusal place) =
     if eqb refusal 7 then record { number = 0; yes = 1; place = 0 } else record { number = 0; yes = 0; place = place }
 blank (next number place after rest) =
-    elim (white number) [ true ↦ blank rest | false ↦ record { number = 0; yes = 0; place = place } ]
+    let behind = blank rest in if white number then behind else record { number = 0; yes = 0; place = place }
 
 -- 1, then 31 for a place past the draft, then the answer
 unfoldable pub tail : Limits → (draft : List ℕ) → (place : ℕ) → Tail

@@ -1,4 +1,13 @@
 // From characters to tokens: Shastina Specification, section 3, and document 01, "From characters to tokens".
+ghost use mathlib.Core.Path.{_≡_};
+ghost use mathlib.Core.Bool.{false};
+ghost use Prim.Native.Nat.{_+_, _-_, _<_, _≤_};
+ghost use lib.ListN.{length, drop};
+ghost use Rattle.chars.specs.Limits.{limits};
+ghost use Rattle.chars.specs.Stream.{streamAt};
+ghost use Rattle.tokens.specs.Tokens.{between, bar as barAt, word as wordAt, string as stringOf, tokens, first, opens, follows, up, down, nested, tokenAt};
+ghost use Rattle.tokens.specs.Runs.{classOf, run as runOf, pastBlanks, pastComment, pastAll, sortOf, refusalOf};
+use chars::Character;
 
 // What the characters from a place of a draft on come to first. A place is a token's first byte.
 pub enum Token {
@@ -35,4 +44,361 @@ pub enum Token {
         number: u32,
         place: usize,
     },
+}
+
+// The class of each byte (specs/Runs.antt, classOf).
+const CLASSES: [u8; 256] = [
+    0,
+    5,
+    5,
+    5,
+    5,
+    5,
+    5,
+    5,
+    5,
+    8,
+    9,
+    5,
+    5,
+    0,
+    5,
+    5,
+    5,
+    5,
+    5,
+    5,
+    5,
+    5,
+    5,
+    5,
+    5,
+    5,
+    5,
+    5,
+    5,
+    5,
+    5,
+    5,
+    8,
+    4,
+    2,
+    6,
+    4,
+    7,
+    4,
+    4,
+    7,
+    7,
+    4,
+    4,
+    7,
+    4,
+    4,
+    4,
+    4,
+    4,
+    4,
+    4,
+    4,
+    4,
+    4,
+    4,
+    4,
+    4,
+    4,
+    7,
+    4,
+    4,
+    4,
+    4,
+    4,
+    4,
+    4,
+    4,
+    4,
+    4,
+    4,
+    4,
+    4,
+    4,
+    4,
+    4,
+    4,
+    4,
+    4,
+    4,
+    4,
+    4,
+    4,
+    4,
+    4,
+    4,
+    4,
+    4,
+    4,
+    4,
+    4,
+    7,
+    3,
+    7,
+    4,
+    4,
+    4,
+    4,
+    4,
+    4,
+    4,
+    4,
+    4,
+    4,
+    4,
+    4,
+    4,
+    4,
+    4,
+    4,
+    4,
+    4,
+    4,
+    4,
+    4,
+    4,
+    4,
+    4,
+    4,
+    4,
+    4,
+    4,
+    4,
+    2,
+    4,
+    1,
+    4,
+    5,
+    0,
+    0,
+    0,
+    0,
+    0,
+    0,
+    0,
+    0,
+    0,
+    0,
+    0,
+    0,
+    0,
+    0,
+    0,
+    0,
+    0,
+    0,
+    0,
+    0,
+    0,
+    0,
+    0,
+    0,
+    0,
+    0,
+    0,
+    0,
+    0,
+    0,
+    0,
+    0,
+    0,
+    0,
+    0,
+    0,
+    0,
+    0,
+    0,
+    0,
+    0,
+    0,
+    0,
+    0,
+    0,
+    0,
+    0,
+    0,
+    0,
+    0,
+    0,
+    0,
+    0,
+    0,
+    0,
+    0,
+    0,
+    0,
+    0,
+    0,
+    0,
+    0,
+    0,
+    0,
+    0,
+    0,
+    0,
+    0,
+    0,
+    0,
+    0,
+    0,
+    0,
+    0,
+    0,
+    0,
+    0,
+    0,
+    0,
+    0,
+    0,
+    0,
+    0,
+    0,
+    0,
+    0,
+    0,
+    0,
+    0,
+    0,
+    0,
+    0,
+    0,
+    0,
+    0,
+    0,
+    0,
+    0,
+    0,
+    0,
+    0,
+    0,
+    0,
+    0,
+    0,
+    0,
+    0,
+    0,
+    0,
+    0,
+    0,
+    0,
+    0,
+    0,
+    0,
+    0,
+    0,
+    0,
+    0,
+    0,
+    0,
+    0,
+    0,
+    0,
+    0,
+    0,
+    0,
+    0,
+];
+
+fn class(b: u8) -> u8
+    ensures { λ r. ⌜ r ≡ classOf b ⌝ }
+{
+    CLASSES[b as usize]
+}
+
+// From `at` on, where bytes whose class is from `low` to `high` end, at `end` at the latest.
+fn run(draft: &[u8], at: usize, end: usize, low: u8, high: u8) -> usize
+    requires { ⌜ (at ≤ end) × (end ≤ length (now draft)) ⌝ }
+    ensures { λ r. ⌜ r ≡ at + runOf low high (end - at) (drop at (now (draft .entry))) ⌝ }
+{
+    let mut i = at;
+    while i < end {
+        let k = class(draft[i]);
+        if k < low {
+            return i;
+        }
+        if high < k {
+            return i;
+        }
+        i += 1;
+    }
+    i
+}
+
+// What a character that is none comes to: cleaning's refusal, or 7 at the draft's length.
+fn refusal(answer: Character, length: usize) -> Token
+    ensures { λ r. ⌜ r ≡ refusalOf length answer ⌝ }
+{
+    match answer {
+        Character::Refused { number, place } => Token::Refused { number, place },
+        Character::End => Token::Refused {
+            number: 7,
+            place: length,
+        },
+        Character::Clean {
+            number: _,
+            after: _,
+        } => Token::Refused {
+            number: 0,
+            place: 0,
+        },
+    }
+}
+
+// The first place from `at` on that is not whitespace.
+fn blanks(draft: &[u8], at: usize) -> usize
+    requires { ⌜ at ≤ length (now draft) ⌝ }
+    ensures { λ r. ⌜ (streamAt (now (draft .entry)) r ≡ pastBlanks (streamAt (now (draft .entry)) at)) × (at ≤ r) × (r ≤ length (now (draft .entry))) ⌝ }
+{
+    let mut i = run(draft, at, draft.len(), 8, 9);
+    while i < draft.len() {
+        if draft[i] != 0x0D {
+            return i;
+        }
+        let Character::Clean { number: _, after } = chars::character_at(draft, i) else {
+            return i;
+        };
+        i = run(draft, after, draft.len(), 8, 9);
+    }
+    i
+}
+
+// The byte after the LF that ends a comment, or the place of what ends the draft's characters before.
+fn comment(draft: &[u8], at: usize) -> usize
+    requires { ⌜ at ≤ length (now draft) ⌝ }
+    ensures { λ r. ⌜ (streamAt (now (draft .entry)) r ≡ pastComment (streamAt (now (draft .entry)) at)) × (at ≤ r) × (r ≤ length (now (draft .entry))) ⌝ }
+{
+    let mut i = run(draft, at, draft.len(), 1, 8);
+    while i < draft.len() {
+        let Character::Clean { number, after } = chars::character_at(draft, i) else {
+            return i;
+        };
+        if number == 0x0A {
+            return after;
+        }
+        i = run(draft, after, draft.len(), 1, 8);
+    }
+    i
+}
+
+// The first place from `at` on that is neither whitespace nor part of a comment.
+fn skip(draft: &[u8], at: usize) -> usize
+    requires { ⌜ at ≤ length (now draft) ⌝ }
+    ensures { λ r. ⌜ (streamAt (now (draft .entry)) r ≡ pastAll false (streamAt (now (draft .entry)) at)) × (r ≤ length (now (draft .entry))) ⌝ }
+{
+    let mut i = blanks(draft, at);
+    while i < draft.len() {
+        if draft[i] != b'#' {
+            return i;
+        }
+        let behind = comment(draft, i + 1);
+        i = blanks(draft, behind);
+    }
+    i
 }
