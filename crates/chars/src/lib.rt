@@ -7,6 +7,8 @@ ghost use Rattle.chars.specs.Choice.{same};
 ghost use Rattle.chars.specs.Character.{continued as continuedBy, lowest, highest, sequence, paired as pairedBy, judged as judgedBy, carriage, characterAt, encoded, padded};
 ghost use Rattle.chars.specs.Stream.{start as startOf};
 
+pub mod limits;
+
 // What the bytes at a place are by RFC 3629, surrogates let through.
 pub enum Sequence {
     // A number, and the byte after its sequence.
@@ -260,6 +262,22 @@ pub fn encode(number: u32) -> Encoded
         bytes: [byte(0xF0 + number / 262144), second, third, last],
         length: 4,
     }
+}
+
+// How many bytes a character is re-encoded in.
+pub fn encoded_length(number: u32) -> usize
+    ensures { λ r. ⌜ r ≡ length (encoded number) ⌝ }
+{
+    if number < 0x80 {
+        return 1;
+    }
+    if number < 0x800 {
+        return 2;
+    }
+    if number < 0x10000 {
+        return 3;
+    }
+    4
 }
 
 // Whether a draft begins with a fixed string.

@@ -3,3 +3,4 @@ pub mod Table
 pub mod Passing
 pub mod Classes
 pub mod Skipping
+pub mod Strings

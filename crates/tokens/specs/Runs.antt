@@ -1,13 +1,15 @@
 -- What the loops of the code answer. Nothing here says more of the format than Tokens does: laws in proofs/ tie each of these to it.
-use Prim.Native.Nat.{ℕ, zero, suc}
+use Prim.Native.Nat.{ℕ, zero, suc, _+_, _-_, min}
 use mathlib.Core.Bool.{Bool, true, false, not, _&&_, _||_}
 use mathlib.Core.List.{List, [], _∷_}
 use lib.Dec.{leb, eqb}
+use lib.ListN.{length, drop}
 use Rattle.chars.specs.Choice.{if_then_else_, within}
 use Rattle.chars.specs.Character.{told}
+use Rattle.chars.specs.Limits.{limits}
 use Rattle.chars.specs.Stream.{Stream, next, stop}
 use Rattle.chars.specs.declared.Character.{Character}
-use Rattle.tokens.specs.Tokens.{Sort, quoted, curly}
+use Rattle.tokens.specs.Tokens.{Sort, quoted, curly, Opened}
 use Rattle.tokens.specs.declared.Token.{Token}
 use Rattle.tokens.specs.declared.Token.the-variants.{Refused}
 use Rattle.tokens.specs.Sorts.{visible, white, atomic, exclusive, inclusive, legal}
@@ -59,10 +61,20 @@ pastAll false (next number place after rest) =
     else next number place after rest
 
 -- the sort of a string, as the code has it: curly or not
-unfoldable pub sortOf : (curly : Bool) → Sort
+unfoldable pub sortOf : (is-curly : Bool) → Sort
 sortOf true = curly
 sortOf false = quoted
+
+-- a string that has been opened
+unfoldable pub openedAs : (is-curly : Bool) → (place prefix from : ℕ) → Opened
+openedAs is-curly place prefix from = record { sort = sortOf is-curly; place = place; prefix = prefix; from = from }
 
 -- a character that is none, as a refusal with the number and place that document 01 gives it
 unfoldable pub refusalOf : (length : ℕ) → Character → Token
 refusalOf length answer = Refused (told length answer .refusal) (told length answer .place)
+
+-- where bytes that are plain data end, from `at` on, behind `n` clean bytes: as far as the limit goes; behind an odd run of backslashes at once
+unfoldable pub ordinaryEnd : (draft : List ℕ) → (at n : ℕ) → (odd : Bool) → ℕ
+ordinaryEnd draft at n odd =
+    if odd then at
+    else at + run 4 9 (min (length draft) (at + (limits .string - n)) - at) (drop at draft)

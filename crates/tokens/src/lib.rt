@@ -1,13 +1,16 @@
 // From characters to tokens: Shastina Specification, section 3, and document 01, "From characters to tokens".
 ghost use mathlib.Core.Path.{_≡_};
-ghost use mathlib.Core.Bool.{false};
-ghost use Prim.Native.Nat.{_+_, _-_, _<_, _≤_};
+ghost use mathlib.Core.Bool.{false, not, _&&_};
+ghost use lib.Dec.{eqb};
+ghost use Rattle.chars.specs.Choice.{if_then_else_};
+ghost use Prim.Native.Nat.{_+_, _-_, _<_, _≤_, min};
 ghost use lib.ListN.{length, drop};
 ghost use Rattle.chars.specs.Limits.{limits};
 ghost use Rattle.chars.specs.Stream.{streamAt};
-ghost use Rattle.tokens.specs.Tokens.{between, bar as barAt, word as wordAt, string as stringOf, tokens, first, opens, follows, up, down, nested, tokenAt};
-ghost use Rattle.tokens.specs.Runs.{classOf, run as runOf, pastBlanks, pastComment, pastAll, sortOf, refusalOf};
+ghost use Rattle.tokens.specs.Tokens.{Opened, between, bar as barAt, word as wordAt, string as stringOf, tokens, first, shown, closed as closedBy, opens, follows, nested, down, tokenAt};
+ghost use Rattle.tokens.specs.Runs.{classOf, run as runOf, pastBlanks, pastComment, pastAll, sortOf, openedAs, refusalOf, ordinaryEnd};
 use chars::Character;
+use chars::limits;
 
 // What the characters from a place of a draft on come to first. A place is a token's first byte.
 pub enum Token {
@@ -401,4 +404,141 @@ fn skip(draft: &[u8], at: usize) -> usize
         i = blanks(draft, behind);
     }
     i
+}
+
+// Whether a character closes a string: behind no odd run of backslashes, at level 1.
+fn closes(curly: bool, level: usize, odd: bool, number: u32) -> bool
+    ensures { λ r. ⌜ r ≡ (not odd && down (sortOf curly) number && eqb level 1) ⌝ }
+{
+    if odd {
+        return false;
+    }
+    if curly {
+        if number != b'}' as u32 {
+            return false;
+        }
+        return level == 1;
+    }
+    if number != b'"' as u32 {
+        return false;
+    }
+    level == 1
+}
+
+// The nesting level behind a character of string data.
+fn level_after(curly: bool, level: usize, odd: bool, number: u32) -> usize
+    requires { ⌜ (1 ≤ level) × (level ≤ 4097) ⌝ }
+    ensures { λ r. ⌜ r ≡ (if odd then level else nested (sortOf curly) level number) ⌝ }
+{
+    if odd {
+        return level;
+    }
+    if curly {
+        if number == b'{' as u32 {
+            return level + 1;
+        }
+        if number == b'}' as u32 {
+            return level - 1;
+        }
+        return level;
+    }
+    if number == b'"' as u32 {
+        return level - 1;
+    }
+    level
+}
+
+// Whether an odd run of backslashes stands right before what follows a character of string data.
+fn odd_after(odd: bool, number: u32) -> bool
+    ensures { λ r. ⌜ r ≡ (not odd && eqb number 0x5C) ⌝ }
+{
+    if odd {
+        return false;
+    }
+    number == b'\\' as u32
+}
+
+// A string once it is closed.
+fn closed(
+    curly: bool,
+    place: usize,
+    after: usize,
+    prefix: usize,
+    from: usize,
+    length: usize,
+) -> Token
+    ensures { λ r. ⌜ r ≡ shown (closedBy (openedAs curly place prefix from) after length) ⌝ }
+{
+    if curly {
+        return Token::Curly {
+            place,
+            after,
+            prefix,
+            from,
+            length,
+        };
+    }
+    Token::Quoted {
+        place,
+        after,
+        prefix,
+        from,
+        length,
+    }
+}
+
+// The lesser of `end` and the place `n` bytes behind `at`.
+fn until(end: usize, at: usize, n: usize) -> usize
+    requires { ⌜ at ≤ end ⌝ }
+    ensures { λ r. ⌜ r ≡ min end (at + n) ⌝ }
+{
+    if end - at < n {
+        return end;
+    }
+    at + n
+}
+
+// From `at` on, behind `n` clean bytes of string data, where bytes that are plain data end; behind an odd run of backslashes at once.
+fn ordinary(draft: &[u8], at: usize, n: usize, odd: bool) -> usize
+    requires { ⌜ (at ≤ length (now draft)) × (n ≤ 4096) ⌝ }
+    ensures { λ r. ⌜ r ≡ ordinaryEnd (now (draft .entry)) at n odd ⌝ }
+{
+    if odd {
+        return at;
+    }
+    let end = until(draft.len(), at, limits::STRING - n);
+    run(draft, at, end, 4, 9)
+}
+
+// A string whose data begins at `from`.
+fn string(draft: &[u8], curly: bool, place: usize, prefix: usize, from: usize) -> Token
+    requires { ⌜ from ≤ length (now draft) ⌝ }
+    ensures { λ r. ⌜ r ≡ first (tokens limits (stringOf (openedAs curly place prefix from) 0 1 false) (streamAt (now (draft .entry)) from)) ⌝ }
+{
+    let mut i = from;
+    let mut n: usize = 0;
+    let mut level: usize = 1;
+    let mut odd = false;
+    loop {
+        let at = ordinary(draft, i, n, odd);
+        let held = n + (at - i);
+        let answer = chars::character_at(draft, at);
+        let Character::Clean { number, after } = answer else {
+            return refusal(answer, draft.len());
+        };
+        if closes(curly, level, odd, number) {
+            return closed(curly, place, after, prefix, from, held);
+        }
+        let size = chars::encoded_length(number);
+        if limits::STRING - held < size {
+            return Token::Refused {
+                number: 9,
+                place: at,
+            };
+        }
+        level = level_after(curly, level, odd, number);
+        odd = odd_after(odd, number);
+        n = held + size;
+        i = after;
+    }
 }
