@@ -4,3 +4,5 @@ pub mod Passing
 pub mod Classes
 pub mod Skipping
 pub mod Strings
+pub mod Words
+pub mod Starts

@@ -40,7 +40,7 @@ comment-first (next number place after rest) =
     either (eqb number 0x0A) (λ t. rw t) (λ t. rw t (comment-first rest))
 
 -- how many characters a stream has
-count : Stream → ℕ
+unfoldable pub count : Stream → ℕ
 count (stop refusal place) = 0
 count (next number place after rest) = suc (count rest)
 
@@ -238,14 +238,15 @@ module _ (draft : List ℕ) where
   pub none-behind : (i : ℕ) → length draft ≤ i → (number after : ℕ) → characterAt draft i ≡ Clean number after → ⊥
   none-behind i h number after e = let far = reaches i number after e in omega (arith, far .0, far .1)
 
-  -- `#` is its own byte
-  no-remark :
-      (i number after : ℕ) → characterAt draft i ≡ Clean number after → (getD draft i 0 ≡ 0x23 → ⊥) → number ≡ 0x23 → ⊥
+  -- a mark of US-ASCII other than LF is its own byte
+  pub no-mark :
+      (mark i number after : ℕ) → mark < 0x80 → (mark ≡ 0x0A → ⊥) → characterAt draft i ≡ Clean number after
+      → (getD draft i 0 ≡ mark → ⊥) → number ≡ mark → ⊥
   unfolding characterAt
-  no-remark i number after e r z =
+  no-mark mark i number after h line e r z =
       let here : getD (drop i draft) 0 0 ≡ getD draft i 0 = getD-drop i draft 0 0 ∙ ap (λ k. getD draft k 0) (add-zero i) in
-      let line = character-is (drop i draft) i number after e .returned in
-      let own = own-byte i number after e (omega arith) (λ c. omega (arith, line (here ∙ c))) in
+      let cr = character-is (drop i draft) i number after e .returned in
+      let own = own-byte i number after e (omega arith) (λ c. line (sym z ∙ cr (here ∙ c))) in
       r (own .1 ∙ z)
 
   -- where neither whitespace nor a comment stands, both end
@@ -257,7 +258,7 @@ module _ (draft : List ℕ) where
       by-character i
       (λ number after is here.
       let none = settled number i after (streamAt draft after) (rw here at e) in
-      rw (here, none, ne-eqb number 0x23 (λ z. no-remark i number after is r z)))
+      rw (here, none, ne-eqb number 0x23 (λ z. no-mark 0x23 i number after (omega arith) (λ l. omega arith) is r z)))
       (λ refusal place here. rw here)
 
   -- a comment begins
@@ -272,3 +273,16 @@ module _ (draft : List ℕ) where
   pub all-stops : (i : ℕ) → length draft ≤ i → streamAt draft i ≡ pastAll false (streamAt draft i)
   unfolding pastAll
   all-stops i h = rw (at-end draft i h)
+
+  -- a character whose byte has class 0 is LF, from CR with LF, or is not US-ASCII
+  pub foreign-number :
+      (i number after : ℕ) → class-at draft i ≡ 0 → characterAt draft i ≡ Clean number after → (number ≡ 0x0A → ⊥) → 0x80 ≤ number
+  unfolding characterAt
+  foreign-number i number after k e line =
+      either (ltb number 0x80)
+      (λ l.
+      let here : getD (drop i draft) 0 0 ≡ getD draft i 0 = getD-drop i draft 0 0 ∙ ap (λ k. getD draft k 0) (add-zero i) in
+      let own = own-class i number after e (ltb-true number 0x80 l)
+      (λ c. line (character-is (drop i draft) i number after e .returned (here ∙ c))) in
+      absurd (omega (arith, own .1)))
+      (λ l. ltb-false number 0x80 l)

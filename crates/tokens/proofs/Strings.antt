@@ -73,9 +73,9 @@ module _ (L : Limits) (draft : List ℕ) (o : Opened) where
     pub goes-on :
         (not odd && down (o .sort) number && eqb level 1) ≡ false → n + length (encoded number) ≤ L .string
         → tokens L (string o n level odd) (streamAt draft i)
-          ≡ tokens L
-            (string o (n + length (encoded number)) (if odd then level else nested (o .sort) level number) (not odd && eqb number 0x5C))
-            (streamAt draft after)
+        ≡ tokens L
+        (string o (n + length (encoded number)) (if odd then level else nested (o .sort) level number) (not odd && eqb number 0x5C))
+        (streamAt draft after)
     unfolding tokens step inside follows
     goes-on t h = rw (at-character draft i number after e, t, le-ltb (L .string) (n + length (encoded number)) h)
 
@@ -100,18 +100,18 @@ ordinarily draft at n false h m =
     let far = most 4 9 draft k at (omega arith) in
     record {
       same =
-        λ o level.
+          λ o level.
           let F : ℕ → Tokens = λ i. tokens limits (string o (n + (i - at)) level false) (streamAt draft i) in
           let none : n + (at - at) ≡ n = omega arith in
           sym (ap (λ j. tokens limits (string o j level false) (streamAt draft at)) none)
           ∙ carried 4 9 draft F k at (omega arith)
-            (λ i g l a b.
-              let one : n + (i - at) + 1 ≡ n + ((i + 1) - at) = omega arith in
-              plainly limits draft o i (n + (i - at)) level (omega arith) a b (omega arith)
-              ∙ ap (λ j. tokens limits (string o j level false) (streamAt draft (i + 1))) one);
+          (λ i g l a b.
+          let one : n + (i - at) + 1 ≡ n + ((i + 1) - at) = omega arith in
+          plainly limits draft o i (n + (i - at)) level (omega arith) a b (omega arith)
+          ∙ ap (λ j. tokens limits (string o j level false) (streamAt draft (i + 1))) one);
       on = omega arith;
       there = omega arith;
-      fits = omega arith
+      fits = omega arith;
     }
 
 -- the nesting level behind a character that does not close the string

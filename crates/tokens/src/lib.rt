@@ -4,7 +4,7 @@ ghost use mathlib.Core.Bool.{false, not, _&&_};
 ghost use lib.Dec.{eqb};
 ghost use Rattle.chars.specs.Choice.{if_then_else_};
 ghost use Prim.Native.Nat.{_+_, _-_, _<_, _≤_, min};
-ghost use lib.ListN.{length, drop};
+ghost use lib.ListN.{length, getD, drop};
 ghost use Rattle.chars.specs.Limits.{limits};
 ghost use Rattle.chars.specs.Stream.{streamAt};
 ghost use Rattle.tokens.specs.Tokens.{Opened, between, bar as barAt, word as wordAt, string as stringOf, tokens, first, shown, closed as closedBy, opens, follows, nested, down, tokenAt};
@@ -541,4 +541,178 @@ fn string(draft: &[u8], curly: bool, place: usize, prefix: usize, from: usize) -
         n = held + size;
         i = after;
     }
+}
+
+// A string that `open`, a quote or a curly, opens behind a prefix.
+fn opened(draft: &[u8], open: u8, place: usize, prefix: usize, from: usize) -> Token
+    requires { ⌜ from ≤ length (now draft) ⌝ }
+    ensures { λ r. ⌜ r ≡ first (follows (opens «open» place prefix from) (λ state. tokens limits state (streamAt (now (draft .entry)) from))) ⌝ }
+{
+    if open == b'"' {
+        return string(draft, false, place, prefix, from);
+    }
+    string(draft, true, place, prefix, from)
+}
+
+// The end of a simple token or a prefix at a byte that is not US-ASCII, CR or nul: CR with LF ends a token, any other character is illegal.
+fn foreign_end(draft: &[u8], begun: usize, i: usize) -> Token
+    requires { ⌜ (begun ≤ i) × (i < length (now draft)) × (classOf (getD (now draft) i 0) ≡ 0) ⌝ }
+    ensures { λ r. ⌜ r ≡ first (tokens limits (wordAt begun (i - begun)) (streamAt (now (draft .entry)) i)) ⌝ }
+{
+    let answer = chars::character_at(draft, i);
+    let Character::Clean { number, after: _ } = answer else {
+        return refusal(answer, draft.len());
+    };
+    if number == 0x0A {
+        return Token::Simple {
+            place: begun,
+            after: i,
+            length: i - begun,
+        };
+    }
+    Token::Refused {
+        number: 6,
+        place: i,
+    }
+}
+
+// A simple token or a string with a prefix, whose first byte is at `begun`.
+fn word(draft: &[u8], begun: usize) -> Token
+    requires { ⌜ begun < length (now draft) ⌝ }
+    ensures { λ r. ⌜ r ≡ first (tokens limits (wordAt begun 1) (streamAt (now (draft .entry)) (begun + 1))) ⌝ }
+{
+    let end = until(draft.len(), begun + 1, limits::TOKEN - 1);
+    let i = run(draft, begun + 1, end, 3, 4);
+    if draft.len() <= i {
+        return Token::Refused {
+            number: 7,
+            place: draft.len(),
+        };
+    }
+    let b = draft[i];
+    let k = class(b);
+    if k == 0 {
+        return foreign_end(draft, begun, i);
+    }
+    if k == 2 {
+        return opened(draft, b, begun, i - begun, i + 1);
+    }
+    if k == 5 {
+        return Token::Refused {
+            number: 6,
+            place: i,
+        };
+    }
+    if k == 3 {
+        return Token::Refused {
+            number: 8,
+            place: i,
+        };
+    }
+    if k == 4 {
+        return Token::Refused {
+            number: 8,
+            place: i,
+        };
+    }
+    Token::Simple {
+        place: begun,
+        after: i,
+        length: i - begun,
+    }
+}
+
+// A token that begins with a bar: with `;` right after it, it is the last token.
+fn bar(draft: &[u8], begun: usize) -> Token
+    requires { ⌜ begun < length (now draft) ⌝ }
+    ensures { λ r. ⌜ r ≡ first (tokens limits (barAt begun) (streamAt (now (draft .entry)) (begun + 1))) ⌝ }
+{
+    let next = begun + 1;
+    if draft.len() <= next {
+        return Token::Refused {
+            number: 7,
+            place: draft.len(),
+        };
+    }
+    if draft[next] == b';' {
+        return Token::Last {
+            place: begun,
+            after: begun + 2,
+        };
+    }
+    word(draft, begun)
+}
+
+// A character that is no US-ASCII, where no token has begun: it is illegal, if cleaning gives it at all.
+fn foreign_start(draft: &[u8], i: usize) -> Token
+    requires { ⌜ (i < length (now draft)) × (classOf (getD (now draft) i 0) ≡ 0) × (streamAt (now draft) i ≡ pastAll false (streamAt (now draft) i)) ⌝ }
+    ensures { λ r. ⌜ r ≡ first (tokens limits between (streamAt (now (draft .entry)) i)) ⌝ }
+{
+    let answer = chars::character_at(draft, i);
+    let Character::Clean {
+        number: _,
+        after: _,
+    } = answer
+    else {
+        return refusal(answer, draft.len());
+    };
+    Token::Refused {
+        number: 6,
+        place: i,
+    }
+}
+
+// The token that begins at `i`, where neither whitespace nor a comment stands.
+fn token_from(draft: &[u8], i: usize) -> Token
+    requires { ⌜ (i < length (now draft)) × (streamAt (now draft) i ≡ pastAll false (streamAt (now draft) i)) ⌝ }
+    ensures { λ r. ⌜ r ≡ first (tokens limits between (streamAt (now (draft .entry)) i)) ⌝ }
+{
+    let b = draft[i];
+    let k = class(b);
+    if k == 0 {
+        return foreign_start(draft, i);
+    }
+    if k == 2 {
+        return opened(draft, b, i, 0, i + 1);
+    }
+    if k == 5 {
+        return Token::Refused {
+            number: 6,
+            place: i,
+        };
+    }
+    if b == b'|' {
+        return bar(draft, i);
+    }
+    if k == 3 {
+        return word(draft, i);
+    }
+    if k == 4 {
+        return word(draft, i);
+    }
+    Token::Simple {
+        place: i,
+        after: i + 1,
+        length: 1,
+    }
+}
+
+// The first token from a place on, for every draft and every place.
+pub fn token_at(draft: &[u8], at: usize) -> Token
+    ensures { λ r. ⌜ r ≡ tokenAt limits (now (draft .entry)) at ⌝ }
+{
+    if draft.len() <= at {
+        return Token::Refused {
+            number: 7,
+            place: draft.len(),
+        };
+    }
+    let i = skip(draft, at);
+    if draft.len() <= i {
+        return Token::Refused {
+            number: 7,
+            place: draft.len(),
+        };
+    }
+    token_from(draft, i)
 }

@@ -5,8 +5,6 @@ use native.Mathlib.Omega.{arith}
 use Rattle.chars.proofs.Extent.{encoded-one, encoded-two, encoded-three, encoded-four}
 use Rattle.chars.proofs.encoded_length.Statement.{statement}
 use Rattle.chars.proofs.encoded_length.Tie as tie
-use Rattle.chars.proofs.encoded_length.Reads as reads
-use Rattle.chars.proofs.encoded_length.Lts as lts
 
 returns : tie.Need-returns
 returns c = sym (ap length (encoded-one (c .before .args .number) (omega arith)))

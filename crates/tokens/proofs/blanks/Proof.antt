@@ -10,10 +10,6 @@ use Rattle.tokens.specs.Runs.{pastBlanks}
 use Rattle.tokens.proofs.Skipping.{Ran, blanked, joined, reaches, line-passed, blanks-end, no-blank, none-behind}
 use Rattle.tokens.proofs.blanks.Statement.{statement}
 use Rattle.tokens.proofs.blanks.Tie as tie
-use Rattle.tokens.proofs.blanks.Reads as reads
-use Rattle.tokens.proofs.blanks.Lts as lts
-use Rattle.chars.proofs.character_at.Reads as character-at-reads
-use Rattle.tokens.proofs.run.Reads as run-reads
 
 abbrev Inv-loop : tie.InvT-loop
 Inv-loop draft at i₀ i = Ran draft pastBlanks 8 9 at i

@@ -8,8 +8,6 @@ use Rattle.tokens.proofs.Table.{entry}
 use borrow.Author.Needs.{needs}
 use Rattle.tokens.proofs.class.Statement.{statement}
 use Rattle.tokens.proofs.class.Tie as tie
-use Rattle.tokens.proofs.class.Reads as reads
-use Rattle.tokens.proofs.class.Lts as lts
 
 array-read-result : tie.Need-array-read-result
 array-read-result c = search needs

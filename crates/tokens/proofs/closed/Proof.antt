@@ -3,8 +3,6 @@ use Rattle.tokens.specs.Tokens.{shown, closed}
 use Rattle.tokens.specs.Runs.{sortOf, openedAs}
 use Rattle.tokens.proofs.closed.Statement.{statement}
 use Rattle.tokens.proofs.closed.Tie as tie
-use Rattle.tokens.proofs.closed.Reads as reads
-use Rattle.tokens.proofs.closed.Lts as lts
 
 returns : tie.Need-returns
 unfolding shown closed openedAs sortOf

@@ -5,8 +5,6 @@ use Rattle.tokens.specs.Runs.{sortOf}
 use borrow.Author.Needs.{needs}
 use Rattle.tokens.proofs.closes.Statement.{statement}
 use Rattle.tokens.proofs.closes.Tie as tie
-use Rattle.tokens.proofs.closes.Reads as reads
-use Rattle.tokens.proofs.closes.Lts as lts
 
 returns : tie.Need-returns
 returns c = search needs

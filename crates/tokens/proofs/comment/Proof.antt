@@ -10,10 +10,6 @@ use Rattle.tokens.specs.Runs.{pastComment}
 use Rattle.tokens.proofs.Skipping.{Ran, remarked, joined, reaches, comment-stops, comment-ends, comment-on, none-behind}
 use Rattle.tokens.proofs.comment.Statement.{statement}
 use Rattle.tokens.proofs.comment.Tie as tie
-use Rattle.tokens.proofs.comment.Reads as reads
-use Rattle.tokens.proofs.comment.Lts as lts
-use Rattle.chars.proofs.character_at.Reads as character-at-reads
-use Rattle.tokens.proofs.run.Reads as run-reads
 
 abbrev Inv-loop : tie.InvT-loop
 Inv-loop draft at i₀ i = Ran draft pastComment 1 8 at i

@@ -6,8 +6,6 @@ use Rattle.tokens.specs.Runs.{sortOf}
 use borrow.Author.Needs.{needs}
 use Rattle.tokens.proofs.level_after.Statement.{statement}
 use Rattle.tokens.proofs.level_after.Tie as tie
-use Rattle.tokens.proofs.level_after.Reads as reads
-use Rattle.tokens.proofs.level_after.Lts as lts
 
 returns : tie.Need-returns
 returns c = search needs

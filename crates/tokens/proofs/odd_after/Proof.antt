@@ -2,8 +2,6 @@
 use borrow.Author.Needs.{needs}
 use Rattle.tokens.proofs.odd_after.Statement.{statement}
 use Rattle.tokens.proofs.odd_after.Tie as tie
-use Rattle.tokens.proofs.odd_after.Reads as reads
-use Rattle.tokens.proofs.odd_after.Lts as lts
 
 returns : tie.Need-returns
 returns c = search needs

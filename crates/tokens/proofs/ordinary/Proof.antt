@@ -5,10 +5,6 @@ use Rattle.tokens.specs.Runs.{ordinaryEnd}
 use borrow.Author.Needs.{needs}
 use Rattle.tokens.proofs.ordinary.Statement.{statement}
 use Rattle.tokens.proofs.ordinary.Tie as tie
-use Rattle.tokens.proofs.ordinary.Reads as reads
-use Rattle.tokens.proofs.ordinary.Lts as lts
-use Rattle.tokens.proofs.run.Reads as run-reads
-use Rattle.tokens.proofs.until.Reads as until-reads
 
 returns : tie.Need-returns
 unfolding ordinaryEnd

@@ -4,8 +4,6 @@ use Rattle.tokens.specs.Runs.{refusalOf}
 use borrow.Author.Needs.{needs}
 use Rattle.tokens.proofs.refusal.Statement.{statement}
 use Rattle.tokens.proofs.refusal.Tie as tie
-use Rattle.tokens.proofs.refusal.Reads as reads
-use Rattle.tokens.proofs.refusal.Lts as lts
 
 enum-known-answer : tie.Need-enum-known-answer
 enum-known-answer c = search needs

@@ -9,9 +9,6 @@ use Rattle.tokens.specs.Runs.{run}
 use Rattle.tokens.proofs.Passing.{onward, halted-below, halted-above, finished}
 use Rattle.tokens.proofs.run.Statement.{statement}
 use Rattle.tokens.proofs.run.Tie as tie
-use Rattle.tokens.proofs.run.Reads as reads
-use Rattle.tokens.proofs.run.Lts as lts
-use Rattle.tokens.proofs.class.Reads as class-reads
 
 abbrev Inv-loop : tie.InvT-loop
 Inv-loop draft at end low high i₀ i =

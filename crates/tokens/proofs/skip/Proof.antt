@@ -11,10 +11,6 @@ use Rattle.tokens.specs.Runs.{pastBlanks, pastAll}
 use Rattle.tokens.proofs.Skipping.{blanks-first, blanks-twice, all-end, all-remark, all-stops}
 use Rattle.tokens.proofs.skip.Statement.{statement}
 use Rattle.tokens.proofs.skip.Tie as tie
-use Rattle.tokens.proofs.skip.Reads as reads
-use Rattle.tokens.proofs.skip.Lts as lts
-use Rattle.tokens.proofs.blanks.Reads as blanks-reads
-use Rattle.tokens.proofs.comment.Reads as comment-reads
 
 abbrev Inv-loop : tie.InvT-loop
 Inv-loop draft at i₀ i =

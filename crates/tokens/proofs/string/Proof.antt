@@ -16,21 +16,11 @@ use Rattle.tokens.proofs.Skipping.{reaches}
 use Rattle.tokens.proofs.Strings.{Ordinarily, ordinarily, stops, closes-here, too-long, goes-on, level-bounds}
 use Rattle.tokens.proofs.string.Statement.{statement}
 use Rattle.tokens.proofs.string.Tie as tie
-use Rattle.tokens.proofs.string.Reads as reads
-use Rattle.tokens.proofs.string.Lts as lts
-use Rattle.chars.proofs.character_at.Reads as character-at-reads
-use Rattle.chars.proofs.encoded_length.Reads as encoded-length-reads
-use Rattle.tokens.proofs.closed.Reads as closed-reads
-use Rattle.tokens.proofs.closes.Reads as closes-reads
-use Rattle.tokens.proofs.level_after.Reads as level-after-reads
-use Rattle.tokens.proofs.odd_after.Reads as odd-after-reads
-use Rattle.tokens.proofs.ordinary.Reads as ordinary-reads
-use Rattle.tokens.proofs.refusal.Reads as refusal-reads
 
 abbrev Inv-loop : tie.InvT-loop
 Inv-loop draft curly place prefix from i₀ n₀ level₀ odd₀ i n level odd =
     (first (tokens limits (string (openedAs curly place prefix from) n level odd) (streamAt draft i))
-      ≡ first (tokens limits (string (openedAs curly place prefix from) 0 1 false) (streamAt draft from)))
+    ≡ first (tokens limits (string (openedAs curly place prefix from) 0 1 false) (streamAt draft from)))
     × (i ≤ length draft)
     × (n ≤ 4096)
     × (1 ≤ level)
@@ -69,15 +59,15 @@ refusal-requires : tie.Need-refusal-requires Inv-loop μ-loop
 refusal-requires c κs = search needs
 
 returns : tie.Need-returns Inv-loop μ-loop
-returns c = 
+returns c =
     let a = c .before .before .before .before .before .before .args in
     let l = c .before .before .before .before .loop in
     let o = openedAs (a .curly) (a .place) (a .prefix) (a .from) in
     let ran = behind (c .before .before .before) in
     let none = stops limits (a .draft .now) (c .before .before .before .ordinary .result) (string o (l .n + (c .before .before .before .ordinary .result - l .i)) (l .level) (l .odd))
-      (λ number after e.
-      let is = c .before .before .character-at .ensures ∙ e in
-      ⊎-elim (λ k. absurd (let z = rw is at k in omega arith)) (λ k. absurd (let z = rw is at k in omega arith)) (c .before .match .keys2)) in
+    (λ number after e.
+    let is = c .before .before .character-at .ensures ∙ e in
+    ⊎-elim (λ k. absurd (let z = rw is at k in omega arith)) (λ k. absurd (let z = rw is at k in omega arith)) (c .before .match .keys2)) in
     c .refusal .ensures ∙ (ap (refusalOf _) (c .before .before .character-at .ensures) ∙ (sym none ∙ (sym (ap first (ran .same o (l .level))) ∙ l .inv .0)))
 
 closes-requires : tie.Need-closes-requires Inv-loop μ-loop
@@ -88,7 +78,7 @@ closed-requires c κs = search needs
 
 returns-2 : tie.Need-returns-2 Inv-loop μ-loop
 unfolding openedAs
-returns-2 c = 
+returns-2 c =
     let a = c .before .before .before .before .before .before .before .before .before .before .args in
     let l = c .before .before .before .before .before .before .before .before .loop in
     let o = openedAs (a .curly) (a .place) (a .prefix) (a .from) in
@@ -107,7 +97,7 @@ sub-if2 c = behind (c .before .before .before .before .before .before .before) .
 
 returns-3 : tie.Need-returns-3 Inv-loop μ-loop
 unfolding openedAs
-returns-3 c = 
+returns-3 c =
     let a = c .before .before .before .before .before .before .before .before .before .before .before .args in
     let l = c .before .before .before .before .before .before .before .before .before .loop in
     let o = openedAs (a .curly) (a .place) (a .prefix) (a .from) in
@@ -129,7 +119,7 @@ add-n : tie.Need-add-n Inv-loop μ-loop
 add-n c = omega (arith, behind (c .before .before .before .before .before .before .before .before .before .before) .fits)
 
 loop-less : tie.Need-loop-less Inv-loop μ-loop
-loop-less c = 
+loop-less c =
     let a = c .before .before .before .before .before .before .before .before .before .before .before .before .before .args in
     let l = c .before .before .before .before .before .before .before .before .before .before .before .loop in
     let o = openedAs (a .curly) (a .place) (a .prefix) (a .from) in
@@ -143,7 +133,7 @@ loop-less c =
 
 loop-again : tie.Need-loop-again Inv-loop μ-loop
 unfolding openedAs
-loop-again c = 
+loop-again c =
     let a = c .before .before .before .before .before .before .before .before .before .before .before .before .before .args in
     let l = c .before .before .before .before .before .before .before .before .before .before .before .loop in
     let o = openedAs (a .curly) (a .place) (a .prefix) (a .from) in
@@ -157,13 +147,14 @@ loop-again c =
     let many = encoded-size (g .0 .0) in
     let more = sym (c .before .before .before .before .before .closes .ensures) ∙ c .before .before .before .before .if1 .left in
     let fits : l .n + (at - l .i) + c .before .before .before .encoded-length .result ≤ 4096 = omega (arith, c .before .before .if2 .left, ran .fits) in
-    let deep = level-bounds (o .sort) (l .level) (g .0 .0) (l .odd) (l .inv .3) more in
-    (rw (c .before .level-after .ensures, c .odd-after .ensures, size)
-      (sym (ap first (goes-on limits (a .draft .now) o at (g .0 .0) (g .0 .1 .0) (l .n + (at - l .i)) (l .level) (l .odd) is more (omega (arith, fits, size)))) ∙ back),
-     far .1,
-     fits,
-     rw (c .before .level-after .ensures) (deep .0),
-     rw (c .before .level-after .ensures) (omega (arith, deep .1, size, many .0, l .inv .4, ran .on)))
+    let deep = level-bounds (o .sort) (l .level) (g .0 .0) (l .odd) (l .inv .3) more in (
+      rw (c .before .level-after .ensures, c .odd-after .ensures, size)
+          (sym (ap first (goes-on limits (a .draft .now) o at (g .0 .0) (g .0 .1 .0) (l .n + (at - l .i)) (l .level) (l .odd) is more (omega (arith, fits, size)))) ∙ back),
+      far .1,
+      fits,
+      rw (c .before .level-after .ensures) (deep .0),
+      rw (c .before .level-after .ensures) (omega (arith, deep .1, size, many .0, l .inv .4, ran .on)),
+    )
 
 pub string-spec : {M : Type 1} → statement M
 string-spec =
