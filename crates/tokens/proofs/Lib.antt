@@ -6,3 +6,4 @@ pub mod Skipping
 pub mod Strings
 pub mod Words
 pub mod Starts
+pub mod Copying

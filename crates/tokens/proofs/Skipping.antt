@@ -204,6 +204,11 @@ module _ (draft : List ℕ) where
       let is = character-is (drop i draft) i number after e in
       (is .on, omega (arith, is .on, is .there, length-drop i draft))
 
+  -- its number is in Unicode's range
+  pub scalar : (i number after : ℕ) → characterAt draft i ≡ Clean number after → number < 0x110000
+  unfolding characterAt
+  scalar i number after e = character-is (drop i draft) i number after e .small
+
   -- CR with LF is whitespace
   pub line-passed :
       (i number after : ℕ) → characterAt draft i ≡ Clean number after → getD draft i 0 ≡ 0x0D

@@ -8,6 +8,8 @@ ghost use lib.ListN.{length, getD, drop};
 ghost use Rattle.chars.specs.Limits.{limits};
 ghost use Rattle.chars.specs.Stream.{streamAt};
 ghost use Rattle.tokens.specs.Tokens.{Opened, between, bar as barAt, word as wordAt, string as stringOf, tokens, first, shown, closed as closedBy, opens, follows, nested, down, tokenAt};
+ghost use Rattle.tokens.specs.Copy.{copied, copiedInto};
+ghost use lib.Seq.{paste};
 ghost use Rattle.tokens.specs.Runs.{classOf, run as runOf, pastBlanks, pastComment, pastAll, sortOf, openedAs, refusalOf, ordinaryEnd};
 use chars::Character;
 use chars::limits;
@@ -715,4 +717,60 @@ pub fn token_at(draft: &[u8], at: usize) -> Token
         };
     }
     token_from(draft, i)
+}
+
+// What the copier did.
+pub enum Copied {
+    // So many clean bytes stand at the front of the part.
+    Whole { length: usize },
+    // The part is too small, and nothing was written.
+    TooSmall,
+}
+
+// A re-encoded character at a place of a part.
+fn put(out: &mut [u8], at: usize, bytes: [u8; 4], n: usize)
+    requires { ⌜ (n ≤ 4) × (at + n ≤ length (now out)) ⌝ }
+    ensures { λ r. ⌜ now (out .exit) ≡ paste (now (out .entry)) at bytes n ⌝ }
+{
+    let mut j = 0;
+    while j < n {
+        out[at + j] = bytes[j];
+        j += 1;
+    }
+}
+
+// Copies clean bytes from a place of the draft on, `n` at most, to the front of a part.
+pub fn copy(draft: &[u8], from: usize, n: usize, out: &mut [u8]) -> Copied
+    ensures { λ r. ⌜ (r ≡ copied (now (draft .entry)) from n (now (out .entry))) × (now (out .exit) ≡ copiedInto (now (draft .entry)) from n (now (out .entry))) ⌝ }
+{
+    if out.len() < n {
+        return Copied::TooSmall;
+    }
+    let mut i = from;
+    let mut k: usize = 0;
+    while k < n {
+        if draft.len() <= i {
+            return Copied::Whole { length: k };
+        }
+        let b = draft[i];
+        if class(b) != 0 {
+            out[k] = b;
+            k += 1;
+            i += 1;
+        } else {
+            let Character::Clean { number, after } = chars::character_at(draft, i) else {
+                return Copied::Whole { length: k };
+            };
+            let size = chars::encoded_length(number);
+            if n - k < size {
+                return Copied::Whole { length: k };
+            }
+            let coded = chars::encode(number);
+            let bytes = coded.bytes;
+            put(out, k, bytes, size);
+            k += size;
+            i = after;
+        }
+    }
+    Copied::Whole { length: k }
 }

@@ -1,0 +1,140 @@
+-- Copying clean bytes, one character at a time: what stands at the front of the part, and what is still to be copied, make up the whole, and
+-- behind it the part is as it was. A byte that is a character by itself and a character that is re-encoded are one step alike.
+use mathlib.Core.Path.{_≡_, refl, sym, _∙_, ap}
+use mathlib.Core.Bool.{Bool, true, false}
+use mathlib.Core.List.{List, [], _∷_, _++_, append-nil, append-assoc}
+use Prim.Native.Nat.{ℕ, suc, _+_, _-_, _<_, _≤_}
+use native.Mathlib.Omega.{arith}
+use native.Mathlib.Numerals.{add-one}
+use lib.Dec.{leb, ltb}
+use lib.ListN.{length, getD, take, drop, set, length-append, length-drop, take-append-drop}
+use lib.Seq.{length-take-le, take-at, drop-at, set-split, drop-drop, take-append-seam, append-snoc, paste}
+use borrow.Author.Tests.{le-leb, lt-leb, le-ltb, lt-ltb}
+use Rattle.chars.specs.Choice.{if_then_else_}
+use Rattle.chars.specs.Character.{characterAt, encoded, padded}
+use Rattle.chars.specs.Stream.{Stream, next, stop, streamAt, clean}
+use Rattle.chars.specs.declared.Character.the-variants.{Clean}
+use Rattle.chars.proofs.Extent.{encoded-size, encoded-one}
+use Rattle.chars.proofs.Streams.{at-character, at-none}
+use Rattle.tokens.specs.Copy.{copied, copiedInto}
+use Rattle.tokens.proofs.Passing.{class-at}
+use Rattle.tokens.proofs.Classes.{low}
+use Rattle.tokens.proofs.Skipping.{alone-at}
+use Rattle.tokens.specs.declared.Copied.{Copied}
+use Rattle.tokens.specs.declared.Copied.the-variants.{Whole, TooSmall}
+
+-- no room, no bytes
+pub clean-zero : (s : Stream) → clean 0 s ≡ []
+unfolding clean
+clean-zero (stop refusal place) = refl
+clean-zero (next number place after rest) = rw (lt-leb (length (encoded number)) 0 (encoded-size number .0))
+
+module _ (draft : List ℕ) (i m : ℕ) where
+  -- the next character fits
+  pub clean-next :
+      (number after : ℕ) → characterAt draft i ≡ Clean number after → length (encoded number) ≤ m
+      → clean m (streamAt draft i) ≡ encoded number ++ clean (m - length (encoded number)) (streamAt draft after)
+  unfolding clean
+  clean-next number after e h = rw (at-character draft i number after e, le-leb (length (encoded number)) m h)
+
+  -- it does not
+  pub clean-full :
+      (number after : ℕ) → characterAt draft i ≡ Clean number after → m < length (encoded number) → clean m (streamAt draft i) ≡ []
+  unfolding clean
+  clean-full number after e h = rw (at-character draft i number after e, lt-leb (length (encoded number)) m h)
+
+  -- there is none
+  pub clean-none :
+      ((number after : ℕ) → characterAt draft i ≡ Clean number after → ⊥) → clean m (streamAt draft i) ≡ []
+  unfolding clean
+  clean-none none = rw (at-none draft i none)
+
+-- the bytes of a re-encoded character in their four bytes
+pub unpadded : (bytes : List ℕ) → take (length bytes) (padded bytes) ≡ bytes
+unfolding padded
+unpadded bytes = take-append-seam bytes _
+
+-- a part that is too small is left alone
+pub too-small :
+    (draft : List ℕ) (from n : ℕ) (before : List ℕ) → length before < n
+    → (TooSmall ≡ copied draft from n before) × (before ≡ copiedInto draft from n before)
+unfolding copied copiedInto
+too-small draft from n before h = (rw (lt-ltb (length before) n h), rw (lt-ltb (length before) n h))
+
+module _ (draft : List ℕ) (from n : ℕ) (before : List ℕ) where
+  -- `k` clean bytes stand at the front of `out`, and the draft has been read up to `i`
+  pub record Copying (out : List ℕ) (i k : ℕ) : Type 0 where
+    pub so-far : take k out ++ clean (n - k) (streamAt draft i) ≡ clean n (streamAt draft from)
+    pub rest : drop k out ≡ drop k before
+    pub long : length out ≡ length before
+    pub within : k ≤ n
+    pub fits : n ≤ length before
+
+  pub begun : n ≤ length before → Copying before from 0
+  begun h =
+      let all : n - 0 ≡ n = omega arith in
+      record { so-far = rw all; rest = refl; long = refl; within = omega arith; fits = h }
+
+  -- one character more
+  pub advance :
+      (out : List ℕ) (i k number after : ℕ) → Copying out i k → characterAt draft i ≡ Clean number after
+      → length (encoded number) ≤ n - k → (out′ : List ℕ)
+      → out′ ≡ (take k out ++ encoded number) ++ drop (k + length (encoded number)) out
+      → Copying out′ after (k + length (encoded number))
+  advance out i k number after c e h out′ is =
+      let size = length (encoded number) in
+      let front : length (take k out) ≡ k = length-take-le k out (omega (arith, c .long, c .within, c .fits)) in
+      let both : length (take k out ++ encoded number) ≡ k + size = length-append (take k out) (encoded number) ∙ ap (λ j. j + size) front in
+      let less : n - k - size ≡ n - (k + size) = omega arith in
+      record {
+        so-far =
+            ap (λ l. l ++ clean (n - (k + size)) (streamAt draft after)) (ap (take (k + size)) is ∙ take-at (take k out ++ encoded number) _ (k + size) both)
+            ∙ (append-assoc (take k out) (encoded number) _
+            ∙ (ap (λ m. take k out ++ (encoded number ++ clean m (streamAt draft after))) (sym less)
+            ∙ (ap (λ l. take k out ++ l) (sym (clean-next draft i (n - k) number after e h)) ∙ c .so-far)));
+        rest =
+            ap (drop (k + size)) is
+            ∙ (drop-at (take k out ++ encoded number) _ (k + size) both
+            ∙ (sym (drop-drop size k out) ∙ (ap (drop size) (c .rest) ∙ drop-drop size k before)));
+        long =
+            ap length is
+            ∙ (length-append (take k out ++ encoded number) _
+            ∙ omega (arith, both, length-drop (k + size) out, c .long, c .within, c .fits));
+        within = omega arith;
+        fits = c .fits;
+      }
+
+  -- nothing more is to be copied
+  pub finished :
+      (out : List ℕ) (i k : ℕ) → Copying out i k → clean (n - k) (streamAt draft i) ≡ []
+      → (Whole k ≡ copied draft from n before) × (out ≡ copiedInto draft from n before)
+  unfolding copied copiedInto
+  finished out i k c none =
+      let whole : take k out ≡ clean n (streamAt draft from) =
+      sym (append-nil (take k out)) ∙ (ap (λ l. take k out ++ l) (sym none) ∙ c .so-far) in
+      let many : length (clean n (streamAt draft from)) ≡ k =
+      sym (ap length whole) ∙ length-take-le k out (omega (arith, c .long, c .within, c .fits)) in
+      let room = le-ltb (length before) n (c .fits) in
+      (rw (room, many), rw (room, many, ← whole) (sym (take-append-drop k out) ∙ ap (λ l. take k out ++ l) (c .rest)))
+
+  -- a byte that is a character by itself
+  pub advance-byte :
+      (out : List ℕ) (i k : ℕ) → Copying out i k → i < length draft → 1 ≤ class-at draft i → k < n
+      → Copying (set out k (getD draft i 0)) (i + 1) (k + 1)
+  advance-byte out i k c h g l =
+      let b = getD draft i 0 in
+      let one : encoded b ≡ b ∷ [] = encoded-one b (low b g) in
+      let size : length (encoded b) ≡ 1 = ap length one in
+      let is : set out k b ≡ (take k out ++ encoded b) ++ drop (k + length (encoded b)) out =
+      set-split out k b (omega (arith, c .long, c .fits))
+      ∙ rw (size, one, add-one) (sym (append-snoc (take k out) b (drop (suc k) out))) in
+      rw size at (advance out i k b (i + 1) c (alone-at draft i h g) (omega (arith, c .within)) (set out k b) is)
+
+  -- a character that is re-encoded
+  pub advance-coded :
+      (out : List ℕ) (i k number after size : ℕ) (bytes : List ℕ) → Copying out i k → characterAt draft i ≡ Clean number after
+      → size ≡ length (encoded number) → size ≤ n - k → bytes ≡ padded (encoded number)
+      → Copying (paste out k bytes size) after (k + size)
+  advance-coded out i k number after size bytes c e s h p =
+      let front : take size bytes ≡ encoded number = rw (s, p) (unpadded (encoded number)) in
+      rw s (advance out i k number after c e (omega arith) (paste out k bytes (length (encoded number))) (rw (← s, front)))
