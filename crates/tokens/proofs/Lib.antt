@@ -7,3 +7,5 @@ pub mod Strings
 pub mod Words
 pub mod Starts
 pub mod Copying
+pub mod OneByOne
+pub mod Lengths

@@ -19,6 +19,15 @@ use Rattle.tokens.specs.Runs.{classOf, run}
 abbrev pub class-at : List ℕ → ℕ → ℕ
 class-at draft i = classOf (getD draft i 0)
 
+-- what each of `n` places in a row leaves as it is
+pub stepwise :
+    {A : Type 0} (F : ℕ → A) (n i : ℕ) → ((j : ℕ) → i ≤ j → j < i + n → F j ≡ F (j + 1)) → F i ≡ F (i + n)
+stepwise F zero i step = rw (add-zero i)
+stepwise F (suc n) i step =
+    let on : i + 1 + n ≡ i + suc n = omega arith in
+    step i (omega arith) (omega arith)
+    ∙ (stepwise F n (i + 1) (λ j g l. step j (omega arith) (omega arith)) ∙ ap F on)
+
 module _ (low high : ℕ) (draft : List ℕ) where
   pub inside :
       (k i : ℕ) → i < length draft → within low high (class-at draft i) ≡ true

@@ -30,7 +30,7 @@ up-not simple b o = refl
 up-not quoted b o = refl
 up-not curly b o = o .no-open
 
-down-not : (s : Sort) (b : ℕ) → Ordinary b → down s b ≡ false
+pub down-not : (s : Sort) (b : ℕ) → Ordinary b → down s b ≡ false
 unfolding down
 down-not simple b o = refl
 down-not quoted b o = o .no-quote
@@ -46,7 +46,7 @@ stops L draft i state none = rw (at-none draft i none)
 
 module _ (L : Limits) (draft : List ℕ) (o : Opened) where
   -- a byte of plain data
-  plainly :
+  pub plainly :
       (i n level : ℕ) → i < length draft → 4 ≤ class-at draft i → class-at draft i ≤ 9 → n < L .string
       → tokens L (string o n level false) (streamAt draft i) ≡ tokens L (string o (n + 1) level false) (streamAt draft (i + 1))
   unfolding tokens step inside follows nested

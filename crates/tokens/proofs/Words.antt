@@ -33,7 +33,7 @@ at-length L draft i state h = rw (at-end draft i h)
 
 module _ (L : Limits) (draft : List ℕ) (begun : ℕ) where
   -- a plain character
-  longer :
+  pub longer :
       (i n : ℕ) → i < length draft → 3 ≤ class-at draft i → class-at draft i ≤ 4 → n < L .token
       → tokens L (word begun n) (streamAt draft i) ≡ tokens L (word begun (suc n)) (streamAt draft (i + 1))
   unfolding tokens step continues follows

@@ -6,8 +6,8 @@ use Rattle.tokens.specs.Sorts.{visible, white, atomic, exclusive, inclus
 use Rattle.tokens.specs.Runs.{classOf}
 use Rattle.tokens.proofs.Table.{entry}
 use borrow.Author.Needs.{needs}
-use Rattle.tokens.proofs.class.Statement.{statement}
-use Rattle.tokens.proofs.class.Tie as tie
+use Rattle.tokens.proofs.byte.class.Statement.{statement}
+use Rattle.tokens.proofs.byte.class.Tie as tie
 
 array-read-result : tie.Need-array-read-result
 array-read-result c = search needs

@@ -9,8 +9,8 @@ use Rattle.chars.proofs.Extent.{encoded-size}
 use Rattle.tokens.proofs.Passing.{class-at}
 use Rattle.tokens.proofs.Skipping.{none-behind, scalar}
 use Rattle.tokens.proofs.Copying.{Copying, begun, advance-byte, advance-coded, finished, clean-zero, clean-full, clean-none, too-small}
-use Rattle.tokens.proofs.copy.Statement.{statement}
-use Rattle.tokens.proofs.copy.Tie as tie
+use Rattle.tokens.proofs.copier.copy.Statement.{statement}
+use Rattle.tokens.proofs.copier.copy.Tie as tie
 
 abbrev Inv-loop : tie.InvT-loop
 Inv-loop draft from n out₀ i₀ k₀ out i k = Copying draft from n out₀ out i k

@@ -6,8 +6,8 @@ use native.Mathlib.Numerals.{add-one}
 use borrow.Author.Needs.{needs}
 use lib.ListN.{length}
 use lib.Seq.{paste, paste-zero, paste-suc, length-paste}
-use Rattle.tokens.proofs.put.Statement.{statement}
-use Rattle.tokens.proofs.put.Tie as tie
+use Rattle.tokens.proofs.copier.put.Statement.{statement}
+use Rattle.tokens.proofs.copier.put.Tie as tie
 
 abbrev Inv-loop : tie.InvT-loop
 Inv-loop out₀ at n bytes j₀ out j = (out ≡ paste out₀ at bytes j) × (j ≤ n) × (length bytes ≡ 4)

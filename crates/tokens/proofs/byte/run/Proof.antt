@@ -7,8 +7,8 @@ use borrow.Author.Needs.{needs}
 use lib.ListN.{length, getD, drop}
 use Rattle.tokens.specs.Runs.{run}
 use Rattle.tokens.proofs.Passing.{onward, halted-below, halted-above, finished}
-use Rattle.tokens.proofs.run.Statement.{statement}
-use Rattle.tokens.proofs.run.Tie as tie
+use Rattle.tokens.proofs.byte.run.Statement.{statement}
+use Rattle.tokens.proofs.byte.run.Tie as tie
 
 abbrev Inv-loop : tie.InvT-loop
 Inv-loop draft at end low high i₀ i =
