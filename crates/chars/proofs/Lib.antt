@@ -5,3 +5,4 @@ pub mod Sequences
 pub mod Extent
 pub mod Characters
 pub mod Streams
+pub mod Grammar
