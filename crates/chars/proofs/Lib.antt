@@ -6,3 +6,4 @@ pub mod Extent
 pub mod Characters
 pub mod Streams
 pub mod Grammar
+pub mod RoundTrip
