@@ -7,3 +7,4 @@ pub mod Characters
 pub mod Streams
 pub mod Grammar
 pub mod RoundTrip
+pub mod Kept
