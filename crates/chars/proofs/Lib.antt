@@ -7,4 +7,5 @@ pub mod Characters
 pub mod Streams
 pub mod Grammar
 pub mod RoundTrip
+pub mod Locality
 pub mod Kept
