@@ -1,6 +1,9 @@
 -- How a fact about a choice is shown: once for the test that passes, and once for the test that fails.
 use mathlib.Core.Path.{_≡_, refl}
 use mathlib.Core.Bool.{Bool, true, false, _&&_, false≢true}
+use Prim.Native.Nat.{ℕ, _<_, _≤_}
+use lib.Dec.{ltb}
+use borrow.Author.Tests.{ltb-true, ltb-false}
 use Rattle.chars.specs.Choice.{if_then_else_}
 
 -- a choice that is `z`: either way tells its test, and that its side is `z`
@@ -19,3 +22,8 @@ both false t e = absurd (false≢true e)
 pub either {κ} : {P : Type κ} (t : Bool) → (t ≡ true → P) → (t ≡ false → P) → P
 either true yes-way no-way = yes-way refl
 either false yes-way no-way = no-way refl
+
+-- a number is below a bound or not
+pub by-bound {κ} : {P : Type κ} (n bound : ℕ) → (n < bound → P) → (bound ≤ n → P) → P
+by-bound n bound below above =
+    either (ltb n bound) (λ t. below (ltb-true n bound t)) (λ t. above (ltb-false n bound t))

@@ -18,10 +18,10 @@ use Rattle.chars.proofs.Cases.{by-test, either}
 use Rattle.chars.proofs.Extent.{within-true, Sound, sequence-sound, encoded-one, encoded-three, encoded-size}
 
 -- a refusal and the end are no character
-refused : {P : Type 0} {bad place number after : ℕ} → Refused bad place ≡ Clean number after → P
+pub refused : {P : Type 0} {bad place number after : ℕ} → Refused bad place ≡ Clean number after → P
 refused e = absurd (let z : _≡_ {A = ℕ} 0 1 = cc in omega arith)
 
-ended : {P : Type 0} {number after : ℕ} → End ≡ Clean number after → P
+pub ended : {P : Type 0} {number after : ℕ} → End ≡ Clean number after → P
 ended e = absurd (let z : _≡_ {A = ℕ} 0 1 = cc in omega arith)
 
 -- what is known of a number outside a range

@@ -1,29 +1,33 @@
 -- How far a sequence reaches, and which numbers it can have: just as many bytes as its number takes when it is re-encoded, since overlong
 -- forms are shut out, and never past the draft. Each continuation byte adds six bits to what is in hand.
 use mathlib.Core.Path.{_≡_, refl, sym, _∙_, ap}
-use mathlib.Core.Bool.{Bool, true, false, _&&_}
+use mathlib.Core.Bool.{true}
 use mathlib.Core.List.{List, [], _∷_}
 use Prim.Native.Nat.{ℕ, zero, suc, _+_, _-_, _*_, _^_, _/_, _%_, _<_, _≤_}
 use native.Mathlib.Nat.{mul-le-mul-right, mul-assoc, pow-succ'}
 use native.Mathlib.Omega.{arith}
 use lib.Dec.{leb, ltb, eqb}
-use lib.ListN.{length, getD, drop, length-drop}
+use lib.ListN.{length, getD, drop}
 use lib.Seq.{drop-drop}
-use borrow.Author.Tests.{leb-true, ltb-true, ltb-false, eqb-true, eqb-false, lt-ltb, le-ltb, ne-eqb}
-use Rattle.chars.specs.Choice.{if_then_else_, within}
+use borrow.Author.Tests.{le-leb, leb-true, ltb-true, ltb-false, eqb-true, eqb-false, lt-ltb, le-ltb, ne-eqb}
+use Rattle.chars.specs.Choice.{within}
 use Rattle.chars.specs.Character.{continued, sequence, lowest, highest, encoded}
-use Rattle.chars.specs.declared.Sequence.{Sequence}
 use Rattle.chars.specs.declared.Sequence.the-variants.{Whole, Malformed}
-use Rattle.chars.proofs.Cases.{by-test, both, either}
+use Rattle.chars.proofs.Sequences.{following}
+use Rattle.chars.proofs.Cases.{by-test, both, either, by-bound}
 
 -- a malformed sequence is no whole one
-malformed : {P : Type 0} {bad number after : ℕ} → Malformed bad ≡ Whole number after → P
+pub malformed : {P : Type 0} {bad number after : ℕ} → Malformed bad ≡ Whole number after → P
 malformed e = absurd (let z : _≡_ {A = ℕ} 0 1 = cc in omega arith)
 
 -- what is known of a byte in its range
 pub within-true : (low high n : ℕ) → within low high n ≡ true → (low ≤ n) × (n ≤ high)
 within-true low high n t =
     let two = both (leb low n) (leb n high) t in (leb-true low n (two .0), leb-true n high (two .1))
+
+-- and the other way
+pub inside : (low high n : ℕ) → low ≤ n → n ≤ high → within low high n ≡ true
+inside low high n g h = simp (le-leb low n g, le-leb n high h)
 
 -- the first of some continuation bytes, and those behind it
 record First (n low high v : ℕ) (bytes : List ℕ) (place number after : ℕ) : Type 0 where
@@ -47,11 +51,20 @@ first n low high v (b ∷ bytes) place number after e =
     (λ t e. malformed e)
     e
 
+-- a whole sequence has as many as are wanted
+counted :
+    (n low high v : ℕ) (bytes : List ℕ) (place number after : ℕ) → continued n low high v bytes place ≡ Whole number after
+    → after ≡ place + n
+unfolding continued
+counted zero low high v bytes place number after e = let q : place ≡ after = cc in omega arith
+counted (suc n) low high v bytes place number after e =
+    let f = first n low high v bytes place number after e in
+    omega (arith, counted n 0x80 0xBF (v * 64 + (f .byte - 0x80)) (f .behind) (suc place) number after (f .rest))
+
 -- six bits for each of `n` continuation bytes
 record Spread (n v : ℕ) (bytes : List ℕ) (place number after : ℕ) : Type 0 where
   least : v * 64 ^ n ≤ number
   most : number < (v + 1) * 64 ^ n
-  so-many : after ≡ place + n
   there : after ≤ place + length bytes
 
 -- 64 times `a` at `n` bytes is `a` at one more
@@ -65,7 +78,7 @@ unfolding continued
 spread zero v bytes place number after e =
     let p : v ≡ number = cc in
     let q : place ≡ after = cc in
-    record { least = omega arith; most = omega arith; so-many = omega arith; there = omega arith }
+    record { least = omega arith; most = omega arith; there = omega arith }
 spread (suc n) v bytes place number after e =
     let f = first n 0x80 0xBF v bytes place number after e in
     let w = v * 64 + (f .byte - 0x80) in
@@ -75,7 +88,6 @@ spread (suc n) v bytes place number after e =
     record {
       least = omega (arith, shifted v n, r .least);
       most = omega (arith, shifted (v + 1) n, r .most);
-      so-many = omega (arith, r .so-many);
       there = omega (arith, r .there, ap length (f .are));
     }
 
@@ -99,26 +111,29 @@ pub encoded-four :
 unfolding encoded
 encoded-four n g = simp (le-ltb n 0x80 (omega arith), le-ltb n 0x800 (omega arith), le-ltb n 0x10000 g)
 
+-- a number is in the range of one, two, three or four bytes
+pub by-range {κ} :
+    {P : Type κ} (n : ℕ) → (n < 0x80 → P) → (0x80 ≤ n → n < 0x800 → P) → (0x800 ≤ n → n < 0x10000 → P) → (0x10000 ≤ n → P) → P
+by-range n one two three four =
+    by-bound n 0x80 one (λ g. by-bound n 0x800 (two g) (λ g. by-bound n 0x10000 (three g) four))
+
 pub encoded-size : (n : ℕ) → (1 ≤ length (encoded n)) × (length (encoded n) ≤ 4)
-unfolding encoded
 encoded-size n =
-    either (ltb n 0x80)
-    (λ t. rw t (omega arith, omega arith))
-    (λ t. rw t (either (ltb n 0x800)
-    (λ t. rw t (omega arith, omega arith))
-    (λ t. rw t (either (ltb n 0x10000)
-    (λ t. rw t (omega arith, omega arith))
-    (λ t. rw t (omega arith, omega arith))))))
+    by-range n
+    (λ l. rw (encoded-one n l) (omega arith))
+    (λ g l. rw (encoded-two n g l) (omega arith))
+    (λ g l. rw (encoded-three n g l) (omega arith))
+    (λ g. rw (encoded-four n g) (omega arith))
 
 -- The range of the second byte, with the bits that the first byte gives: E0 and F0 leave no overlong form, F4 nothing above 10FFFF.
-lowest-least : (b : ℕ) → 0x80 ≤ lowest b
+pub lowest-least : (b : ℕ) → 0x80 ≤ lowest b
 unfolding lowest
 lowest-least b =
     either (eqb b 0xE0)
     (λ t. rw t (omega arith))
     (λ t. rw t (either (eqb b 0xF0) (λ u. rw u (omega arith)) (λ u. rw u (omega arith))))
 
-highest-most : (b : ℕ) → highest b ≤ 0xBF
+pub highest-most : (b : ℕ) → highest b ≤ 0xBF
 unfolding highest
 highest-most b = either (eqb b 0xF4) (λ t. rw t (omega arith)) (λ t. rw t (omega arith))
 
@@ -149,10 +164,10 @@ pub record Sound (bytes : List ℕ) (place number after : ℕ) : Type 0 where
   pub lone : number < 0x80 → getD bytes 0 0 ≡ number
 
 module _ (b : ℕ) (bytes : List ℕ) (place number after : ℕ) where
-  abbrev rest : (n base : ℕ) → Sequence
-  rest n base = continued n (lowest b) (highest b) (b - base) bytes (suc place)
+  pub so-many : (n base : ℕ) → following b bytes place n base ≡ Whole number after → after ≡ suc place + n
+  so-many n base e = counted n (lowest b) (highest b) (b - base) bytes (suc place) number after e
 
-  two : 0xC2 ≤ b → b < 0xE0 → rest 1 0xC0 ≡ Whole number after → Sound (b ∷ bytes) place number after
+  two : 0xC2 ≤ b → b < 0xE0 → following b bytes place 1 0xC0 ≡ Whole number after → Sound (b ∷ bytes) place number after
   two g h e =
       let f = first 0 (lowest b) (highest b) (b - 0xC0) bytes (suc place) number after e in
       let r = spread 0 ((b - 0xC0) * 64 + (f .byte - 0x80)) (f .behind) (suc (suc place)) number after (f .rest) in
@@ -162,12 +177,12 @@ module _ (b : ℕ) (bytes : List ℕ) (place number after : ℕ) where
       let at-most : number < 0x800 = omega (arith, r .most, f .to) in
       record {
         small = omega arith;
-        so-many = omega (arith, r .so-many, ap length (encoded-two number at-least at-most));
+        so-many = omega (arith, so-many 1 0xC0 e, ap length (encoded-two number at-least at-most));
         there = omega (arith, r .there, ap length (f .are));
         lone = λ h. absurd (omega arith);
       }
 
-  three : 0xE0 ≤ b → b < 0xF0 → rest 2 0xE0 ≡ Whole number after → Sound (b ∷ bytes) place number after
+  three : 0xE0 ≤ b → b < 0xF0 → following b bytes place 2 0xE0 ≡ Whole number after → Sound (b ∷ bytes) place number after
   three g h e =
       let f = first 1 (lowest b) (highest b) (b - 0xE0) bytes (suc place) number after e in
       let r = spread 1 ((b - 0xE0) * 64 + (f .byte - 0x80)) (f .behind) (suc (suc place)) number after (f .rest) in
@@ -178,12 +193,12 @@ module _ (b : ℕ) (bytes : List ℕ) (place number after : ℕ) where
       let at-most : number < 0x10000 = omega (arith, r .most, f .to) in
       record {
         small = omega arith;
-        so-many = omega (arith, r .so-many, ap length (encoded-three number at-least at-most));
+        so-many = omega (arith, so-many 2 0xE0 e, ap length (encoded-three number at-least at-most));
         there = omega (arith, r .there, ap length (f .are));
         lone = λ h. absurd (omega arith);
       }
 
-  four : 0xF0 ≤ b → b ≤ 0xF4 → rest 3 0xF0 ≡ Whole number after → Sound (b ∷ bytes) place number after
+  four : 0xF0 ≤ b → b ≤ 0xF4 → following b bytes place 3 0xF0 ≡ Whole number after → Sound (b ∷ bytes) place number after
   four g h e =
       let f = first 2 (lowest b) (highest b) (b - 0xF0) bytes (suc place) number after e in
       let r = spread 2 ((b - 0xF0) * 64 + (f .byte - 0x80)) (f .behind) (suc (suc place)) number after (f .rest) in
@@ -194,7 +209,7 @@ module _ (b : ℕ) (bytes : List ℕ) (place number after : ℕ) where
       let at-most : number < 0x110000 = omega (arith, r .most, f .to) in
       record {
         small = at-most;
-        so-many = omega (arith, r .so-many, ap length (encoded-four number at-least));
+        so-many = omega (arith, so-many 3 0xF0 e, ap length (encoded-four number at-least));
         there = omega (arith, r .there, ap length (f .are));
         lone = λ h. absurd (omega arith);
       }
@@ -225,6 +240,14 @@ sequence-sound (b ∷ bytes) place number after e =
     (λ t5 e. four b bytes place number after (ltb-false b 0xF0 t4) (omega (arith, ltb-true b 0xF5 t5)) e)
     (λ t5 e. malformed e)
     e) e) e) e) e
+
+-- a surrogate has three bytes
+pub three-bytes :
+    (bytes : List ℕ) (place number after : ℕ) → sequence bytes place ≡ Whole number after → 0xD800 ≤ number → number ≤ 0xDFFF
+    → after ≡ place + 3
+three-bytes bytes place number after e g h =
+    let s = sequence-sound bytes place number after e in
+    omega (arith, ap length (encoded-three number (omega arith) (omega arith)))
 
 -- what is left of a draft behind a whole sequence
 pub behind :

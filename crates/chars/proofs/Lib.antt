@@ -5,3 +5,7 @@ pub mod Sequences
 pub mod Extent
 pub mod Characters
 pub mod Streams
+pub mod Grammar
+pub mod RoundTrip
+pub mod Locality
+pub mod Kept

@@ -1,7 +1,7 @@
 -- The continuation bytes of a sequence, one byte of a draft at a time. Each law opens the definition at the byte at `i`, which is the
 -- head of what is left of the draft there.
 use mathlib.Core.Path.{_≡_, refl, _∙_, sym, ap}
-use mathlib.Core.List.{List}
+use mathlib.Core.List.{List, _∷_}
 use Prim.Native.Nat.{ℕ, zero, suc, _+_, _-_, _*_, _^_, _<_, _≤_}
 use native.Mathlib.Nat.{not-suc-le-zero, mul-le-mul-right, mul-assoc, le-trans, pow-succ', one-le-pow, le-mul-of-pos-right}
 use native.Mathlib.Numerals.{add-one}
@@ -58,7 +58,32 @@ pub nothing : (draft : List ℕ) (at : ℕ) → length draft ≤ at → sequence
 unfolding sequence
 nothing draft at h = rw (drop-of-length-le draft h)
 
--- The sequence at `at`, by the range of its first byte `b`.
+-- The sequence that begins with `b`, by the range of `b`.
+module _ (b : ℕ) (bytes : List ℕ) (place : ℕ) where
+  -- what stands behind the first byte
+  abbrev pub following : (n base : ℕ) → Sequence
+  following n base = continued n (lowest b) (highest b) (b - base) bytes (suc place)
+
+  pub begins-two : 0xC2 ≤ b → b < 0xE0 → sequence (b ∷ bytes) place ≡ following 1 0xC0
+  unfolding sequence
+  begins-two g l = simp (le-ltb b 0x80 (omega arith), le-ltb b 0xC2 g, lt-ltb b 0xE0 l)
+
+  pub begins-three : 0xE0 ≤ b → b < 0xF0 → sequence (b ∷ bytes) place ≡ following 2 0xE0
+  unfolding sequence
+  begins-three g l = simp (le-ltb b 0x80 (omega arith), le-ltb b 0xC2 (omega arith), le-ltb b 0xE0 g, lt-ltb b 0xF0 l)
+
+  pub begins-four : 0xF0 ≤ b → b ≤ 0xF4 → sequence (b ∷ bytes) place ≡ following 3 0xF0
+  unfolding sequence
+  begins-four g l =
+      simp (
+        le-ltb b 0x80 (omega arith),
+        le-ltb b 0xC2 (omega arith),
+        le-ltb b 0xE0 (omega arith),
+        le-ltb b 0xF0 g,
+        lt-ltb b 0xF5 (omega arith),
+      )
+
+-- The sequence at `at`, by the range of its first byte.
 module _ (draft : List ℕ) (at : ℕ) (h : at < length draft) where
   pub single : getD draft at 0 < 0x80 → sequence (drop at draft) at ≡ Whole (getD draft at 0) (at + 1)
   unfolding sequence
@@ -86,37 +111,13 @@ module _ (draft : List ℕ) (at : ℕ) (h : at < length draft) where
       continued n (lowest (getD draft at 0)) (highest (getD draft at 0)) (getD draft at 0 - base) (drop (at + 1) draft) (at + 1)
 
   pub two : 0xC2 ≤ getD draft at 0 → getD draft at 0 < 0xE0 → sequence (drop at draft) at ≡ rest 1 0xC0
-  unfolding sequence
-  two g l =
-      rw (drop-cons draft at 0 h, add-one)
-      (simp (
-        le-ltb (getD draft at 0) 0x80 (omega arith),
-        le-ltb (getD draft at 0) 0xC2 g,
-        lt-ltb (getD draft at 0) 0xE0 l,
-      ))
+  two g l = rw (drop-cons draft at 0 h, add-one) (begins-two (getD draft at 0) (drop (suc at) draft) at g l)
 
   pub three : 0xE0 ≤ getD draft at 0 → getD draft at 0 < 0xF0 → sequence (drop at draft) at ≡ rest 2 0xE0
-  unfolding sequence
-  three g l =
-      rw (drop-cons draft at 0 h, add-one)
-      (simp (
-        le-ltb (getD draft at 0) 0x80 (omega arith),
-        le-ltb (getD draft at 0) 0xC2 (omega arith),
-        le-ltb (getD draft at 0) 0xE0 g,
-        lt-ltb (getD draft at 0) 0xF0 l,
-      ))
+  three g l = rw (drop-cons draft at 0 h, add-one) (begins-three (getD draft at 0) (drop (suc at) draft) at g l)
 
   pub four : 0xF0 ≤ getD draft at 0 → getD draft at 0 ≤ 0xF4 → sequence (drop at draft) at ≡ rest 3 0xF0
-  unfolding sequence
-  four g l =
-      rw (drop-cons draft at 0 h, add-one)
-      (simp (
-        le-ltb (getD draft at 0) 0x80 (omega arith),
-        le-ltb (getD draft at 0) 0xC2 (omega arith),
-        le-ltb (getD draft at 0) 0xE0 (omega arith),
-        le-ltb (getD draft at 0) 0xF0 g,
-        lt-ltb (getD draft at 0) 0xF5 (omega arith),
-      ))
+  four g l = rw (drop-cons draft at 0 h, add-one) (begins-four (getD draft at 0) (drop (suc at) draft) at g l)
 
 -- what is in hand leaves room for the bits that are still to come
 pub room : (v b n : ℕ) → b < 64 → 0 < n → (v + 1) * 64 ^ n ≤ 2 ^ 21 → (v * 64 + b + 1) * 64 ^ (n - 1) ≤ 2 ^ 21

@@ -16,7 +16,7 @@ unfolding padded
 returns c =
     let n = c .before .before .args .number in
     let is = encoded-one n (omega arith) in
-    (rw is (cc), sym (ap length is))
+    (rw (is, c .byte .ensures), sym (ap length is))
 
 add-byte : tie.Need-add-byte
 add-byte c = search needs
@@ -35,7 +35,9 @@ unfolding padded
 returns-2 c =
     let n = c .before .before .before .before .args .number in
     let is = encoded-two n (omega arith) (omega arith) in
-    (rw is (cc), sym (ap length is))
+    let first = c .byte3 .ensures in
+    let last = c .before .before .byte2 .ensures in
+    (rw (is, first, last), sym (ap length is))
 
 add-byte-3 : tie.Need-add-byte-3
 add-byte-3 c = search needs
@@ -54,7 +56,10 @@ unfolding padded
 returns-3 c =
     let n = c .before .before .before .before .before .before .args .number in
     let is = encoded-three n (omega arith) (omega arith) in
-    (rw is (cc), sym (ap length is))
+    let first = c .byte5 .ensures in
+    let third = c .before .before .byte4 .ensures in
+    let last = c .before .before .before .before .byte2 .ensures in
+    (rw (is, first, third, last), sym (ap length is))
 
 add-byte-5 : tie.Need-add-byte-5
 add-byte-5 c = search needs
@@ -73,7 +78,11 @@ unfolding padded
 returns-4 c =
     let n = c .before .before .before .before .before .before .before .args .number in
     let is = encoded-four n (omega arith) in
-    (rw is (cc), sym (ap length is))
+    let first = c .byte7 .ensures in
+    let second = c .before .byte6 .ensures in
+    let third = c .before .before .before .byte4 .ensures in
+    let last = c .before .before .before .before .before .byte2 .ensures in
+    (rw (is, first, second, third, last), sym (ap length is))
 
 pub encode-spec : {M : Type 1} → statement M
 encode-spec =

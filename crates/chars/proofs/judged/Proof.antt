@@ -49,7 +49,7 @@ returns-5 c =
     let is = sym (c .before .before .before .before .before .before .before .before .sequence-at .ensures) ∙ g .1 in
     rw is
     (simp (le-leb 0xD800 n (omega arith), le-leb n 0xDBFF (omega arith))
-    (rw (behind (a .draft .now) (a .at) n (g .0 .1 .0) is) (cc)))
+    (rw (behind (a .draft .now) (a .at) n (g .0 .1 .0) is) (c .paired .ensures ∙ rw (c .before .sequence-at2 .ensures))))
 
 pub judged-spec : {M : Type 1} → statement M
 judged-spec =

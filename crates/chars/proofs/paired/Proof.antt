@@ -18,11 +18,13 @@ returns c = rw (c .enum-told .given .1)
 
 returns-2 : tie.Need-returns-2
 unfolding paired
-returns-2 c = let g = c .before .before .second .given in rw (g .1) (simp (lt-leb 0xDC00 (g .0 .0) (c .if1 .taken)))
+returns-2 c = let g = c .before .before .second .given in rw (g .1) (simp (lt-leb 0xDC00 (g .0 .0) (omega arith)))
 
 returns-3 : tie.Need-returns-3
 unfolding paired
-returns-3 c = let g = c .before .before .before .second .given in rw (g .1) (simp (le-leb 0xDC00 (g .0 .0) (omega arith), lt-leb (g .0 .0) 0xDFFF (c .if2 .taken)))
+returns-3 c =
+    let g = c .before .before .before .second .given in
+    rw (g .1) (simp (le-leb 0xDC00 (g .0 .0) (omega arith), lt-leb (g .0 .0) 0xDFFF (omega arith)))
 
 sub-t7 : tie.Need-sub-t7
 sub-t7 c = search needs
