@@ -1,31 +1,92 @@
 -- The tokens of a draft come one after another: each ends within the draft, behind where it began, within the limits of length, and the tokens
 -- behind it are those from the byte after it on. A character that ends a token, left out, is looked at once more as where no token has begun.
 use mathlib.Core.Path.{_≡_, refl, sym, _∙_, ap, subst}
-use mathlib.Core.Bool.{Bool, true, false, not, _&&_}
-use mathlib.Core.List.{List}
+use mathlib.Core.Bool.{Bool, true, false, not, _&&_, false≢true}
+use mathlib.Core.List.{List, _++_, append-nil, append-assoc}
 use Prim.Native.Nat.{ℕ, zero, suc, _+_, _-_, _<_, _≤_}
 use native.Mathlib.Omega.{arith}
 use lib.Dec.{eqb, ltb}
-use lib.ListN.{length}
-use borrow.Author.Tests.{ltb-true, ltb-false}
+use lib.ListN.{length, length-append}
+use borrow.Author.Tests.{ltb-true, ltb-false, not-false}
 use Rattle.chars.specs.Choice.{if_then_else_}
 use Rattle.chars.specs.Limits.{Limits}
 use Rattle.chars.specs.Character.{characterAt, encoded}
 use Rattle.chars.specs.Stream.{Stream, next, stop, streamAt}
 use Rattle.chars.specs.declared.Character.the-variants.{Clean}
 use Rattle.tokens.specs.Sorts.{visible, white, atomic, exclusive, inclusive, legal}
-use Rattle.tokens.specs.Tokens.{quoted, curly, Whole, Tokens, token, last, refused, Opened, State, between, comment, bar, word, string}
+use Rattle.tokens.specs.Tokens.{simple, quoted, curly, Whole, Tokens, token, last, refused, Opened, State, between, comment, bar, word, string}
 use Rattle.tokens.specs.Tokens.{Outcome, goes, gives, ends, refuses, simply, closed, opens, begins, continues, inside, down, nested, step, follows, tokens}
-use Rattle.tokens.proofs.Skipping.{by-character, reaches}
+use Rattle.chars.specs.Stream.{clean}
+use Rattle.chars.proofs.Cases.{either}
+use Rattle.chars.proofs.Characters.{character-is}
+use Rattle.chars.proofs.Extent.{encoded-one}
+use Rattle.tokens.proofs.Passing.{class-at}
+use Rattle.tokens.proofs.Classes.{foreign}
+use Rattle.tokens.proofs.Skipping.{by-character, reaches, own-class, cr-line}
+use Rattle.tokens.proofs.Copying.{clean-zero, clean-next}
+
+-- a string is no simple token
+not-quoted : quoted ≡ simple → ⊥
+not-quoted e = let z : _≡_ {A = ℕ} 0 1 = cc in omega arith
+
+not-curly : curly ≡ simple → ⊥
+not-curly e = let z : _≡_ {A = ℕ} 0 1 = cc in omega arith
+
+-- the byte after a simple token
+simply-after : (place after n : ℕ) → simply place after n .after ≡ after
+unfolding simply
+simply-after place after n = refl
 
 module _ (L : Limits) (one : 1 ≤ L .token) (draft : List ℕ) where
-  -- a token that begins at `from` or behind it
+  -- the characters from `from` up to `i` have `n` clean bytes, and whatever room is left goes to those from `i` on
+  pub record Cleaned (from n i : ℕ) : Type 0 where
+    pub long : length (clean n (streamAt draft from)) ≡ n
+    pub more : (m : ℕ) → clean (n + m) (streamAt draft from) ≡ clean n (streamAt draft from) ++ clean m (streamAt draft i)
+
+  cleaned-none : (i : ℕ) → Cleaned i 0 i
+  cleaned-none i =
+      record {
+        long = ap length (clean-zero (streamAt draft i));
+        more = λ m. let same : 0 + m ≡ m = omega arith in rw (same, clean-zero (streamAt draft i));
+      }
+
+  cleaned-on :
+      (from n i number after : ℕ) → Cleaned from n i → characterAt draft i ≡ Clean number after
+      → Cleaned from (n + length (encoded number)) after
+  cleaned-on from n i number after c e =
+      let size = length (encoded number) in
+      let all : clean size (streamAt draft i) ≡ encoded number =
+      clean-next draft i size number after e (omega arith)
+      ∙ (let none : size - size ≡ 0 = omega arith in rw (none, clean-zero (streamAt draft after)) (append-nil (encoded number))) in
+      let so-far : clean (n + size) (streamAt draft from) ≡ clean n (streamAt draft from) ++ encoded number =
+      c .more size ∙ ap (λ l. clean n (streamAt draft from) ++ l) all in
+      record {
+        long = ap length so-far ∙ (length-append (clean n (streamAt draft from)) (encoded number) ∙ ap (λ k. k + size) (c .long));
+        more =
+            λ m.
+            let regroup : n + size + m ≡ n + (size + m) = omega arith in
+            let left : size + m - size ≡ m = omega arith in
+            ap (λ k. clean k (streamAt draft from)) regroup
+            ∙ (c .more (size + m)
+            ∙ (ap (λ l. clean n (streamAt draft from) ++ l) (clean-next draft i (size + m) number after e (omega arith))
+            ∙ (ap (λ k. clean n (streamAt draft from) ++ (encoded number ++ clean k (streamAt draft after))) left
+            ∙ (sym (append-assoc (clean n (streamAt draft from)) (encoded number) (clean m (streamAt draft after)))
+            ∙ ap (λ l. l ++ clean m (streamAt draft after)) (sym so-far)))));
+      }
+
+  -- a token that begins at `from` or behind it: where it stands, how long it may be, and that its text and data are as long as it says
   pub record Sound (from : ℕ) (w : Whole) : Type 0 where
     pub behind : from ≤ w .place
     pub on : w .place < w .after
     pub there : w .after ≤ length draft
     pub short : w .prefix ≤ L .token
     pub brief : w .length ≤ L .string
+    pub text-long : length (clean (w .prefix) (streamAt draft (w .place))) ≡ w .prefix
+    pub string-long : length (clean (w .length) (streamAt draft (w .from))) ≡ w .length
+    -- a simple token has a first character, which is its own byte
+    pub some : w .sort ≡ simple → 1 ≤ w .prefix
+    pub own : 1 ≤ w .prefix → 1 ≤ class-at draft (w .place)
+    pub from-there : w .from ≤ length draft
 
   -- the tokens from `from` on: a token and the tokens from the byte after it on, or an end
   pub data OneByOne (from : ℕ) : Tokens → Type 0 where
@@ -33,13 +94,34 @@ module _ (L : Limits) (one : 1 ≤ L .token) (draft : List ℕ) where
     final : (place after : ℕ) → from ≤ place → place < after → after ≤ length draft → OneByOne from (last place after)
     none : (number place : ℕ) → OneByOne from (refused number place)
 
+  -- a token or prefix of `n` bytes that began at `place`, up to `i`
+  record Begun (from i place n : ℕ) : Type 0 where
+    behind : from ≤ place
+    before : place < i
+    short : n ≤ L .token
+    some : 1 ≤ n
+    own : 1 ≤ class-at draft place
+    text : Cleaned place n i
+
+  -- a string with `n` clean bytes of data up to `i`
+  record Inside (from i : ℕ) (o : Opened) (n : ℕ) : Type 0 where
+    behind : from ≤ o .place
+    before : o .place < i
+    short : o .prefix ≤ L .token
+    brief : n ≤ L .string
+    text-long : length (clean (o .prefix) (streamAt draft (o .place))) ≡ o .prefix
+    own : 1 ≤ o .prefix → 1 ≤ class-at draft (o .place)
+    data-there : o .from ≤ length draft
+    string-text : Cleaned (o .from) n i
+    no-simple : o .sort ≡ simple → ⊥
+
   -- what a state knows of the token that has begun
   abbrev Valid : (from i : ℕ) → State → Type 0
   Valid from i between = from ≤ i
   Valid from i comment = from ≤ i
-  Valid from i (bar place) = (from ≤ place) × (place < i)
-  Valid from i (word place n) = (from ≤ place) × (place < i) × (n ≤ L .token)
-  Valid from i (string o n level odd) = (from ≤ o .place) × (o .place < i) × (o .prefix ≤ L .token) × (n ≤ L .string)
+  Valid from i (bar place) = Begun from i place 1
+  Valid from i (word place n) = Begun from i place n
+  Valid from i (string o n level odd) = Inside from i o n
 
   -- what a character at `i` can come to
   data Shape (from number i after : ℕ) : Outcome → Type 0 where
@@ -49,60 +131,160 @@ module _ (L : Limits) (one : 1 ≤ L .token) (draft : List ℕ) where
     over : (place : ℕ) → from ≤ place → place < after → Shape from number i after (ends place after)
     bad : (refusal place : ℕ) → Shape from number i after (refuses refusal place)
 
-  module _ (from number i after : ℕ) (f : from ≤ i) (l : i < after) (m : after ≤ length draft) where
+  module _ (from number i after : ℕ) (f : from ≤ i) (e : characterAt draft i ≡ Clean number after) where
+    far : (i < after) × (after ≤ length draft)
+    far = reaches draft i number after e
+
     either-way :
         (t : Bool) {x y : Outcome} → (t ≡ true → Shape from number i after x) → (t ≡ false → Shape from number i after y)
         → Shape from number i after (if t then x else y)
     either-way true a b = a refl
     either-way false a b = b refl
 
-    opens-shape : (begun n : ℕ) → from ≤ begun → begun < after → n ≤ L .token → Shape from number i after (opens number begun n after)
+    -- a legal character is one byte, clean
+    single : legal number ≡ true → length (encoded number) ≡ 1
+    single t =
+        either (ltb number 0x80)
+        (λ l. ap length (encoded-one number (ltb-true number 0x80 l)))
+        (λ l. absurd (false≢true (sym (foreign number (ltb-false number 0x80 l) .no-legal) ∙ t)))
+
+    -- the first character of a token
+    first-one : white number ≡ false → visible number ≡ true → Begun from after i 1
+    unfolding legal
+    first-one w v =
+        let size : length (encoded number) ≡ 1 = single (rw v) in
+        let low : number < 0x80 =
+        either (ltb number 0x80)
+        (λ l. ltb-true number 0x80 l)
+        (λ l. absurd (false≢true (sym (foreign number (ltb-false number 0x80 l) .no-visible) ∙ v))) in
+        let text = cleaned-on i 0 i number after (cleaned-none i) e in
+        let all : 0 + length (encoded number) ≡ 1 = omega arith in
+        record {
+          behind = f;
+          before = far .0;
+          short = one;
+          some = omega arith;
+          own = own-class draft i number after e low (λ c. false≢true (sym w ∙ cr-line draft i number after e c)) .1;
+          text = rw all at text;
+        }
+
+    simply-sound : (begun n to : ℕ) → Begun from to begun n → begun < to → to ≤ length draft → Sound from (simply begun to n)
+    unfolding simply
+    simply-sound begun n to b h m =
+        record {
+          behind = b .behind;
+          on = h;
+          there = m;
+          short = b .short;
+          brief = omega arith;
+          text-long = b .text .long;
+          string-long = ap length (clean-zero (streamAt draft 0));
+          some = λ s. b .some;
+          own = λ s. b .own;
+          from-there = omega arith;
+        }
+
+    opens-shape :
+        (begun n : ℕ) → from ≤ begun → begun < after → n ≤ L .token → length (clean n (streamAt draft begun)) ≡ n
+        → (1 ≤ n → 1 ≤ class-at draft begun) → Shape from number i after (opens number begun n after)
     unfolding opens
-    opens-shape begun n g h k =
+    opens-shape begun n g h k c w =
         on
         (string (record { sort = if eqb number 0x22 then quoted else curly; place = begun; prefix = n; from = after }) 0 1 false)
-        (g, h, k, omega arith)
+        (record {
+          behind = g;
+          before = h;
+          short = k;
+          brief = omega arith;
+          text-long = c;
+          own = w;
+          data-there = far .1;
+          string-text = cleaned-none after;
+          no-simple = λ s. either (eqb number 0x22) (λ t. not-quoted (rw t at s)) (λ t. not-curly (rw t at s));
+        })
 
     begins-shape : Shape from number i after (begins number i after)
-    unfolding begins simply
+    unfolding begins
     begins-shape =
-        either-way (white number) (λ t. on between (omega arith))
-        (λ t. either-way (eqb number 0x23) (λ t. on comment (omega arith))
+        either-way (white number) (λ t. on between (omega (arith, far .0)))
+        (λ w. either-way (eqb number 0x23) (λ t. on comment (omega (arith, far .0)))
         (λ t. either-way (not (visible number)) (λ t. bad 6 i)
-        (λ t. either-way (inclusive number) (λ t. opens-shape i 0 f l (omega arith))
+        (λ v. either-way (inclusive number)
+        (λ t. opens-shape i 0 f (far .0) (omega arith) (cleaned-none i .long) (λ h. absurd (omega arith)))
         (λ t. either-way (atomic number)
-        (λ t. whole _ (record { behind = f; on = l; there = m; short = one; brief = omega arith }) refl)
-        (λ t. either-way (eqb number 0x7C) (λ t. on (bar i) (f, l))
-        (λ t. on (word i 1) (f, l, one)))))))
+        (λ t. whole _ (simply-sound i 1 after (first-one w (not-false (visible number) v)) (far .0) (far .1)) (simply-after i after 1))
+        (λ t. either-way (eqb number 0x7C)
+        (λ t. on (bar i) (first-one w (not-false (visible number) v)))
+        (λ t. on (word i 1) (first-one w (not-false (visible number) v))))))))
 
-    continues-shape : (begun n : ℕ) → from ≤ begun → begun < i → n ≤ L .token → Shape from number i after (continues L begun n number i after)
-    unfolding continues simply
-    continues-shape begun n g h k =
+    continues-shape : (begun n : ℕ) → Begun from i begun n → Shape from number i after (continues L begun n number i after)
+    unfolding continues
+    continues-shape begun n b =
         either-way (not (legal number)) (λ t. bad 6 i)
         (λ t. either-way (exclusive number)
-        (λ t. left-out _ (record { behind = g; on = h; there = omega arith; short = k; brief = omega arith }) refl)
-        (λ t. either-way (inclusive number) (λ t. opens-shape begun n g (omega arith) k)
-        (λ t. either-way (ltb n (L .token)) (λ t. on (word begun (suc n)) (g, omega arith, ltb-true n (L .token) t))
+        (λ t. left-out _ (simply-sound begun n i b (b .before) (omega (arith, far .0, far .1))) (simply-after begun i n))
+        (λ t2. either-way (inclusive number)
+        (λ t. opens-shape begun n (b .behind) (omega (arith, b .before, far .0)) (b .short) (b .text .long) (λ h. b .own))
+        (λ t3. either-way (ltb n (L .token))
+        (λ l.
+        let size = single (not-false (legal number) t) in
+        let more : n + length (encoded number) ≡ suc n = omega arith in
+        on (word begun (suc n))
+        (record {
+          behind = b .behind;
+          before = omega (arith, b .before, far .0);
+          short = ltb-true n (L .token) l;
+          some = omega arith;
+          own = b .own;
+          text = rw more at (cleaned-on begun n i number after (b .text) e);
+        }))
         (λ t. bad 8 i))))
 
     inside-shape :
-        (o : Opened) (n level : ℕ) (odd : Bool) → from ≤ o .place → o .place < i → o .prefix ≤ L .token → n ≤ L .string
-        → Shape from number i after (inside L o n level odd number i after)
+        (o : Opened) (n level : ℕ) (odd : Bool) → Inside from i o n → Shape from number i after (inside L o n level odd number i after)
     unfolding inside closed
-    inside-shape o n level odd g h k b =
+    inside-shape o n level odd b =
         either-way (not odd && down (o .sort) number && eqb level 1)
-        (λ t. whole _ (record { behind = g; on = omega arith; there = m; short = k; brief = b }) refl)
+        (λ t.
+        whole _
+        (record {
+          behind = b .behind;
+          on = omega (arith, b .before, far .0);
+          there = far .1;
+          short = b .short;
+          brief = b .brief;
+          text-long = b .text-long;
+          string-long = b .string-text .long;
+          some = λ s. absurd (b .no-simple s);
+          own = b .own;
+          from-there = b .data-there;
+        }) refl)
         (λ t. either-way (ltb (L .string) (n + length (encoded number))) (λ t. bad 9 i)
-        (λ t. on _ (g, omega arith, k, ltb-false (L .string) (n + length (encoded number)) t)))
+        (λ l.
+        on _
+        (record {
+          behind = b .behind;
+          before = omega (arith, b .before, far .0);
+          short = b .short;
+          brief = ltb-false (L .string) (n + length (encoded number)) l;
+          text-long = b .text-long;
+          own = b .own;
+          data-there = b .data-there;
+          string-text = cleaned-on (o .from) n i number after (b .string-text) e;
+          no-simple = b .no-simple;
+        })))
 
     shape : (state : State) → Valid from i state → Shape from number i after (step L state number i after)
     unfolding step
     shape between v = begins-shape
-    shape comment v = either-way (eqb number 0x0A) (λ t. on between (omega arith)) (λ t. on comment (omega arith))
+    shape comment v =
+        either-way (eqb number 0x0A) (λ t. on between (omega (arith, far .0))) (λ t. on comment (omega (arith, far .0)))
     shape (bar begun) v =
-        either-way (eqb number 0x3B) (λ t. over begun (v .0) (omega arith)) (λ t. continues-shape begun 1 (v .0) (v .1) one)
-    shape (word begun n) v = continues-shape begun n (v .0) (v .1) (v .2)
-    shape (string o n level odd) v = inside-shape o n level odd (v .0) (v .1) (v .2) (v .3)
+        either-way (eqb number 0x3B)
+        (λ t. over begun (v .behind) (omega (arith, v .before, far .0)))
+        (λ t. continues-shape begun 1 v)
+    shape (word begun n) v = continues-shape begun n v
+    shape (string o n level odd) v = inside-shape o n level odd v
 
   -- from what a character comes to, to the tokens
   module _ (from number i after : ℕ) (here : streamAt draft i ≡ next number i after (streamAt draft after)) where
@@ -133,7 +315,7 @@ module _ (L : Limits) (one : 1 ≤ L .token) (draft : List ℕ) where
       let far = reaches draft i number after e in
       rw here
       (from-shape from number i after here (step L state number i after)
-      (shape from number i after f (far .0) (far .1) state v)
+      (shape from number i after f e state v)
       (far .1)
       (λ state v. walk k from after state (omega (arith, far .0)) (omega (arith, far .0)) v)))
       (λ refusal place here. rw here (none refusal place))

@@ -209,6 +209,15 @@ module _ (draft : List ℕ) where
   unfolding characterAt
   scalar i number after e = character-is (drop i draft) i number after e .small
 
+  -- CR gives LF, which is whitespace
+  pub cr-line :
+      (i number after : ℕ) → characterAt draft i ≡ Clean number after → getD draft i 0 ≡ 0x0D → white number ≡ true
+  unfolding white characterAt
+  cr-line i number after e r =
+      let here : getD (drop i draft) 0 0 ≡ getD draft i 0 = getD-drop i draft 0 0 ∙ ap (λ k. getD draft k 0) (add-zero i) in
+      let line = character-is (drop i draft) i number after e .returned (here ∙ r) in
+      rw line
+
   -- CR with LF is whitespace
   pub line-passed :
       (i number after : ℕ) → characterAt draft i ≡ Clean number after → getD draft i 0 ≡ 0x0D
