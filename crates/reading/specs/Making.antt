@@ -123,6 +123,12 @@ unfoldable pub literal : Sort → Reader → (place : ℕ) → (text string : Li
 literal sort r place text string =
     adds r (record { kind = string-kind (r .metacommand) sort; place = place; text = text; string = string; count = 0 })
 
+-- whether a token is `]`
+unfoldable pub closing : Sort → (text : List ℕ) → Bool
+closing simple text = eqb (getD text 0 0) 0x5D
+closing quoted text = false
+closing curly text = false
+
 -- a token that is whole, `|;` apart
 unfoldable pub judged : Limits → Sort → Reader → (place : ℕ) → (text string : List ℕ) → Judged
 judged L simple r place text string = if r .metacommand then command r place text else regular L r place text

@@ -5,11 +5,11 @@ use mathlib.Core.List.{List, [], _∷_, _++_}
 use lib.Dec.{ltb, eqb}
 use lib.ListN.{length, getD, drop}
 use Rattle.chars.specs.Limits.{Limits}
-use Rattle.chars.specs.Choice.{if_then_else_, same, ascii}
+use Rattle.chars.specs.Choice.{if_then_else_}
 use Rattle.chars.specs.Stream.{start, streamAt, clean}
 use Rattle.tokens.specs.Tokens.{Whole, Tokens, token, last, refused, tokens, between}
 use Rattle.reading.specs.Entity.{Entity, sizes, texts, rows}
-use Rattle.reading.specs.Making.{Reader, fresh, Judged, judged, judged-last, Room, Handled, stops, holds, handled}
+use Rattle.reading.specs.Making.{Reader, fresh, closing, Judged, judged, judged-last, Room, Handled, stops, holds, handled}
 use Rattle.reading.specs.declared.Answer.{Answer}
 
 -- What was read: the entities held, and then the byte after `;`, or a refusal with its place.
@@ -50,7 +50,7 @@ entities L draft room r (last place after) =
 entities L draft room r (token w rest) =
     let text = textOf draft w in
     taken (w .place)
-    (handled L room r (same text (ascii "]")) (w .place) (λ r. judged L (w .sort) r (w .place) text (stringOf draft w)))
+    (handled L room r (closing (w .sort) text) (w .place) (λ r. judged L (w .sort) r (w .place) text (stringOf draft w)))
     (λ room r. entities L draft room r rest)
 
 -- a draft read with room for so many entities and so many bytes of text: 1, then by place
