@@ -1,1 +1,3 @@
 pub mod Computes
+pub mod Listing
+pub mod Filling

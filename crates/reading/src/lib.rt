@@ -1,5 +1,8 @@
 // From tokens to entities: Shastina Specification, section 5, and document 01, "From tokens to entities".
 
+pub mod judge;
+pub mod rows;
+
 // The answer of read and of check. A number that an answer has no use for is 0.
 #[repr(C)]
 pub struct Answer {

@@ -9,7 +9,7 @@ use Rattle.chars.specs.Choice.{if_then_else_, within}
 use Rattle.chars.proofs.Cases.{either, both}
 use Rattle.tokens.specs.Sorts.{visible, white, atomic, exclusive, inclusive, legal}
 use Rattle.tokens.specs.Runs.{classOf}
-use Rattle.tokens.proofs.Table.{below, holds}
+use Rattle.tokens.proofs.Table.{below, holds, if-then, so}
 
 -- a byte with a class above 0 is US-ASCII
 pub low : (b : ℕ) → 1 ≤ classOf b → b < 0x80
@@ -18,14 +18,6 @@ low b h =
     either (leb 0x80 b)
     (λ t. absurd (let none : 1 ≤ 0 = rw (t, or-true, or-true) at h in omega arith))
     (λ t. leb-false 0x80 b t)
-
--- where the first of two tests is passed, so is the second
-abbrev if-then : Bool → Bool → Bool
-if-then s t = not s || t
-
-so : (s t : Bool) → if-then s t ≡ true → s ≡ true → t ≡ true
-so true t e p = e
-so false t e p = absurd (false≢true p)
 
 -- a test that every byte of US-ASCII passes whose class is in a range
 module _ (from to : ℕ) (f : ℕ → Bool) where

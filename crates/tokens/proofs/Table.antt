@@ -1,7 +1,7 @@
 -- A rule of a table, and a fact about every byte: antt computes one test over all of them, and these laws turn the test into the rule at
 -- each place.
 use mathlib.Core.Path.{_≡_, refl, sym, _∙_, ap}
-use mathlib.Core.Bool.{Bool, true, false, _&&_}
+use mathlib.Core.Bool.{Bool, true, false, not, _&&_, _||_, false≢true}
 use mathlib.Core.List.{List, [], _∷_}
 use Prim.Native.Nat.{ℕ, zero, suc, _+_, _<_}
 use native.Mathlib.Omega.{arith}
@@ -40,3 +40,11 @@ holds f (suc n) t k h =
     either (eqb k n)
     (λ e. ap f (eqb-true k n e) ∙ two .0)
     (λ e. holds f n (two .1) k (omega (arith, eqb-false k n e)))
+
+-- where the first of two tests is passed, so is the second
+abbrev pub if-then : Bool → Bool → Bool
+if-then s t = not s || t
+
+pub so : (s t : Bool) → if-then s t ≡ true → s ≡ true → t ≡ true
+so true t e p = e
+so false t e p = absurd (false≢true p)

@@ -1,0 +1,49 @@
+-- Clean bytes in the text buffer: the copier fills the front of the part that it is lent, and the part goes back into its place, so what stands
+-- before it and behind the new bytes is as it was.
+use mathlib.Core.Path.{_≡_, refl, sym, _∙_, ap}
+use mathlib.Core.Bool.{false}
+use mathlib.Core.List.{List, [], _∷_, _++_, append-nil, append-assoc}
+use Prim.Native.Nat.{ℕ, _+_, _-_, _<_, _≤_}
+use native.Mathlib.Omega.{arith}
+use lib.Dec.{ltb}
+use lib.ListN.{length, take, drop, length-drop}
+use lib.Seq.{take-all, drop-drop, drop-length}
+use borrow.Author.Tests.{le-ltb}
+use borrow.Rule.Slice.PartMut.{putMid, postOf, post-is}
+use Rattle.chars.specs.Stream.{streamAt, clean}
+use Rattle.tokens.specs.Copy.{copiedInto}
+use Rattle.reading.specs.Entity.{Entity, texts, size, sizes}
+use Rattle.reading.specs.Judging.{filled, textWritten}
+use Rattle.reading.proofs.Listing.{twice}
+
+pub part-filled :
+    (draft : List ℕ) (from n : ℕ) (text : List ℕ) (used : ℕ) (part : List ℕ) → used + n ≤ length text
+    → length (clean n (streamAt draft from)) ≡ n → part ≡ copiedInto draft from n (take (length text - used) (drop used text))
+    → putMid used (length text - used) text part ≡ take used text ++ (clean n (streamAt draft from) ++ drop (used + n) text)
+unfolding copiedInto
+part-filled draft from n text used part h long is =
+    let bytes = clean n (streamAt draft from) in
+    let all : take (length text - used) (drop used text) ≡ drop used text =
+        take-all (length text - used) (drop used text) (omega (arith, length-drop used text)) in
+    let room = le-ltb (length (drop used text)) n (omega (arith, length-drop used text)) in
+    let new : part ≡ bytes ++ drop (used + n) text = is ∙ rw (all, room, long, drop-drop) in
+    let none : postOf used (length text - used) text ≡ [] = post-is used (length text) text (omega arith) ∙ drop-length text in
+    ap (λ l. take used text ++ l) (rw (none, append-nil) new)
+
+-- an entity's text, and then its data
+pub both-filled :
+    (draft : List ℕ) (kind place text-from text-len data-from data-len count : ℕ) (text : List ℕ) (used : ℕ) (middle after : List ℕ)
+    → used + text-len + data-len ≤ length text
+    → length (clean text-len (streamAt draft text-from)) ≡ text-len → length (clean data-len (streamAt draft data-from)) ≡ data-len
+    → middle ≡ take used text ++ (clean text-len (streamAt draft text-from) ++ drop (used + text-len) text)
+    → after
+      ≡ take (used + text-len) middle ++ (clean data-len (streamAt draft data-from) ++ drop (used + text-len + data-len) middle)
+    → after ≡ textWritten text used (filled draft kind place text-from text-len data-from data-len count ∷ [])
+unfolding textWritten filled texts sizes size
+both-filled draft kind place text-from text-len data-from data-len count text used middle after h long data-long m a =
+    let new = clean text-len (streamAt draft text-from) in
+    let more = clean data-len (streamAt draft data-from) in
+    let all : used + (length new + length more + 0) ≡ used + (length new + length more) = omega arith in
+    let at : used + text-len ≡ used + length new = omega arith in
+    let end : used + text-len + data-len ≡ used + length new + length more = omega arith in
+    a ∙ rw (m, end, at, all, append-nil) (twice text new more used (omega arith))
