@@ -6,3 +6,5 @@ pub const DRAFT: usize = 16384;
 pub const TOKEN: usize = 255;
 // Clean bytes of a string's data.
 pub const STRING: usize = 4096;
+// Groups open at a time.
+pub const GROUPS: usize = 64;

@@ -24,7 +24,7 @@ unfolding copiedInto
 part-filled draft from n text used part h long is =
     let bytes = clean n (streamAt draft from) in
     let all : take (length text - used) (drop used text) ≡ drop used text =
-        take-all (length text - used) (drop used text) (omega (arith, length-drop used text)) in
+    take-all (length text - used) (drop used text) (omega (arith, length-drop used text)) in
     let room = le-ltb (length (drop used text)) n (omega (arith, length-drop used text)) in
     let new : part ≡ bytes ++ drop (used + n) text = is ∙ rw (all, room, long, drop-drop) in
     let none : postOf used (length text - used) text ≡ [] = post-is used (length text) text (omega arith) ∙ drop-length text in
@@ -37,7 +37,7 @@ pub both-filled :
     → length (clean text-len (streamAt draft text-from)) ≡ text-len → length (clean data-len (streamAt draft data-from)) ≡ data-len
     → middle ≡ take used text ++ (clean text-len (streamAt draft text-from) ++ drop (used + text-len) text)
     → after
-      ≡ take (used + text-len) middle ++ (clean data-len (streamAt draft data-from) ++ drop (used + text-len + data-len) middle)
+    ≡ take (used + text-len) middle ++ (clean data-len (streamAt draft data-from) ++ drop (used + text-len + data-len) middle)
     → after ≡ textWritten text used (filled draft kind place text-from text-len data-from data-len count ∷ [])
 unfolding textWritten filled texts sizes size
 both-filled draft kind place text-from text-len data-from data-len count text used middle after h long data-long m a =

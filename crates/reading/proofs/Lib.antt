@@ -1,3 +1,4 @@
 pub mod Computes
 pub mod Listing
 pub mod Filling
+pub mod Judgements

@@ -1,16 +1,19 @@
 -- What the code answers about one token, and what it means in the words of Making. Nothing here says more of the format than Making does.
 use Prim.Native.Nat.{ℕ, suc, _+_, _*_, _≤_}
+use mathlib.Core.Path.{_≡_}
 use mathlib.Core.Bool.{Bool, true, false}
 use mathlib.Core.List.{List, [], _∷_, _++_, tail}
 use lib.Dec.{eqb}
-use lib.ListN.{length, take, drop}
+use lib.ListN.{length, getD, take, drop}
 use Rattle.chars.specs.Choice.{if_then_else_}
+use Rattle.chars.specs.Limits.{limits}
 use Rattle.chars.specs.Stream.{streamAt, clean}
+use Rattle.tokens.specs.Tokens.{simple}
 use Rattle.reading.specs.Entity.{Kind, Entity, bare, sizes, texts, rows}
 use Rattle.reading.specs.Entity.{begin-metacommand, end-metacommand, metacommand-token, metacommand-quoted, metacommand-curly}
 use Rattle.reading.specs.Entity.{begin-group, end-group, array, number, quoted-string, curly-string}
 use Rattle.reading.specs.Entity.{define-variable, define-constant, get, put, operation, end}
-use Rattle.reading.specs.Making.{Reader, Judged, refuses, makes}
+use Rattle.reading.specs.Making.{Reader, Judged, refuses, makes, judged}
 use Rattle.reading.specs.declared.judge.Made.{Made}
 use Rattle.reading.specs.declared.judge.Verdict.{Verdict}
 use Rattle.reading.specs.declared.judge.Verdict.the-variants.{Refuses, Makes}
@@ -84,6 +87,13 @@ meaning (Refuses n) place text string groups = refuses n
 meaning (Makes m) place text string groups =
     makes (madeEntities m place text string)
     (record { metacommand = m .metacommand; opened = m .opened; groups = groupsAfter (m .groups) groups })
+
+-- A verdict about a simple token whose first byte is `c`, with so many groups open and the innermost of them `top`, or 0 where there is none.
+unfoldable pub judges : Verdict → (c depth top : ℕ) → (metacommand opened : Bool) → Type 0
+judges v c depth top metacommand opened =
+    (place : ℕ) (text groups : List ℕ) → getD text 0 0 ≡ c → length groups ≡ depth → getD groups 0 0 ≡ top
+    → meaning v place text [] groups
+    ≡ judged limits simple (record { metacommand = metacommand; opened = opened; groups = groups }) place text []
 
 -- the kinds are numbers of 0 to 17
 unfoldable pub kinds-fine : Verdict → Type 0

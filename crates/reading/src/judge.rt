@@ -1,4 +1,14 @@
 // What a token comes to by its own rules: document 01, refusals 10 to 17.
+ghost use mathlib.Core.Path.{_≡_};
+ghost use mathlib.Core.Bool.{true, false, _||_};
+ghost use mathlib.Core.List.{List, []};
+ghost use Prim.Native.Nat.{ℕ, _≤_};
+ghost use lib.ListN.{length, getD};
+ghost use Rattle.chars.specs.Choice.{among, ascii, within};
+ghost use Rattle.chars.specs.Limits.{limits as base};
+ghost use Rattle.reading.specs.Making.{within-groups, group-begins, group-ends, element-ends, array-ends, adds, word as wordOf};
+ghost use Rattle.reading.specs.Judging.{meaning, judges, kinds-fine};
+use chars::limits;
 
 // The entities of a token, and what is open behind it.
 pub struct Made {
@@ -18,4 +28,112 @@ pub struct Made {
 pub enum Verdict {
     Refuses { number: u32 },
     Makes { made: Made },
+}
+
+// A verdict that makes entities.
+fn makes(
+    first: u32,
+    last: u32,
+    count: u32,
+    text: u32,
+    groups: u32,
+    metacommand: bool,
+    opened: bool,
+) -> Verdict
+    ensures { λ r. ⌜ r ≡ Verdict.Makes (record { first = first; last = last; count = count; text = text; groups = groups; metacommand = metacommand; opened = opened }) ⌝ }
+{
+    let made = Made {
+        first,
+        last,
+        count,
+        text,
+        groups,
+        metacommand,
+        opened,
+    };
+    Verdict::Makes { made }
+}
+
+// `(`: 17 over the limit.
+fn group_begins(depth: usize) -> Verdict
+    ensures { λ r. ⌜ ((place : ℕ) (text groups : List ℕ) → length groups ≡ depth → meaning r place text [] groups ≡ group-begins base (within-groups groups) place) × kinds-fine r ⌝ }
+{
+    if depth < limits::GROUPS {
+        return makes(0, 6, 0, 0, 1, false, false);
+    }
+    Verdict::Refuses { number: 17 }
+}
+
+// `)`: 14 where the innermost open group is none of its own.
+fn group_ends(depth: usize, top: u32) -> Verdict
+    ensures { λ r. ⌜ ((place : ℕ) (text groups : List ℕ) → length groups ≡ depth → getD groups 0 0 ≡ top → meaning r place text [] groups ≡ group-ends groups place) × kinds-fine r ⌝ }
+{
+    if depth == 0 {
+        return Verdict::Refuses { number: 14 };
+    }
+    if top != 0 {
+        return Verdict::Refuses { number: 14 };
+    }
+    makes(0, 7, 0, 0, 2, false, false)
+}
+
+// `,`: 15 where the innermost open group is no element.
+fn element_ends(top: u32) -> Verdict
+    ensures { λ r. ⌜ ((place : ℕ) (text groups : List ℕ) → getD groups 0 0 ≡ top → meaning r place text [] groups ≡ element-ends groups place) × kinds-fine r ⌝ }
+{
+    if top == 0 {
+        return Verdict::Refuses { number: 15 };
+    }
+    makes(7, 6, 0, 0, 3, false, false)
+}
+
+// `]`: 16 where the innermost open group is no element, unless the array has just begun.
+fn array_ends(opened: bool, top: u32) -> Verdict
+    ensures { λ r. ⌜ ((place : ℕ) (text groups : List ℕ) → getD groups 0 0 ≡ top → meaning r place text [] groups ≡ array-ends opened groups place) × kinds-fine r ⌝ }
+{
+    if opened {
+        return makes(0, 8, 0, 0, 0, false, false);
+    }
+    if top == 0 {
+        return Verdict::Refuses { number: 16 };
+    }
+    makes(7, 8, top, 0, 2, false, false)
+}
+
+// Whether a token's first byte makes it a number.
+fn is_number(c: u8) -> bool
+    ensures { λ r. ⌜ r ≡ (among c (ascii "+-") || within 0x30 0x39 c) ⌝ }
+{
+    if c == b'+' {
+        return true;
+    }
+    if c == b'-' {
+        return true;
+    }
+    if c < b'0' {
+        return false;
+    }
+    c <= b'9'
+}
+
+// Any other simple token in regular mode, by its first byte.
+fn word(c: u8, opened: bool) -> Verdict
+    ensures { λ r. ⌜ ((place : ℕ) (text groups : List ℕ) → getD text 0 0 ≡ c → meaning r place text [] groups ≡ adds (record { metacommand = false; opened = opened; groups = groups }) (wordOf place text)) × kinds-fine r ⌝ }
+{
+    if is_number(c) {
+        return makes(0, 9, 0, 1, 0, false, opened);
+    }
+    if c == b'?' {
+        return makes(0, 12, 0, 2, 0, false, opened);
+    }
+    if c == b'@' {
+        return makes(0, 13, 0, 2, 0, false, opened);
+    }
+    if c == b'=' {
+        return makes(0, 14, 0, 2, 0, false, opened);
+    }
+    if c == b':' {
+        return makes(0, 15, 0, 2, 0, false, opened);
+    }
+    makes(0, 16, 0, 1, 0, false, opened)
 }

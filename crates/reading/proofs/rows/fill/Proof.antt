@@ -24,7 +24,7 @@ same-length : tie.Need-same-length
 same-length c = search needs
 
 returns : tie.Need-returns
-returns c = 
+returns c =
     let a = c .before .before .before .before .before .before .args in
     part-filled (a .draft .now) (a .from) (a .n) (a .text .now) (a .used) (c .before .before .copy .last .1 .1 .1 .0)
     (c .before .before .before .before .before .before .pre .0) (c .before .before .before .before .before .before .pre .1) (c .before .before .copy .ensures .1)

@@ -1,0 +1,28 @@
+-- `reading::judge::element_ends` meets its contract: an element, or none. Assumes nothing.
+use mathlib.Core.Path.{_≡_, refl, sym, _∙_, ap}
+use mathlib.Core.List.{List}
+use native.Mathlib.Omega.{arith}
+use Rattle.reading.specs.Entity.{bare}
+use Rattle.reading.specs.Making.{within-groups, counted, group-begins, array-ends, adds, named, word}
+use Rattle.reading.specs.Judging.{meaning, madeEntities, bares, lasts, cut, groupsAfter, kindOf, kinds-fine}
+use Rattle.reading.proofs.Judgements.{no-element, next-element}
+use borrow.Author.Needs.{needs}
+use Rattle.reading.proofs.judge.element_ends.Statement.{statement}
+use Rattle.reading.proofs.judge.element_ends.Tie as tie
+use Rattle.reading.proofs.judge.element_ends.Reads as reads
+use Rattle.reading.proofs.judge.element_ends.Lts as lts
+use Rattle.reading.proofs.judge.makes.Reads as makes-reads
+
+returns : tie.Need-returns
+unfolding meaning madeEntities bares lasts cut groupsAfter kindOf kinds-fine bare within-groups counted
+returns c = (λ place text groups t. sym (no-element groups place (t ∙ c .if1 .taken)), tt)
+
+makes-requires : tie.Need-makes-requires
+makes-requires c κs = search needs
+
+returns-2 : tie.Need-returns-2
+unfolding meaning madeEntities bares lasts cut groupsAfter kindOf kinds-fine bare within-groups counted
+returns-2 c = (λ place text groups t. rw (c .makes .ensures) (sym (next-element groups place (λ z. c .before .if1 .left (sym t ∙ z)))), rw (c .makes .ensures) (omega arith))
+
+pub element-ends-spec : {M : Type 1} → statement M
+element-ends-spec = tie.close (tie.spec returns makes-requires returns-2)
