@@ -6,7 +6,9 @@ ghost use Prim.Native.Nat.{ℕ, _≤_};
 ghost use lib.ListN.{length, getD};
 ghost use Rattle.chars.specs.Choice.{among, ascii, within};
 ghost use Rattle.chars.specs.Limits.{limits as base};
-ghost use Rattle.reading.specs.Making.{within-groups, group-begins, group-ends, element-ends, array-ends, adds, word as wordOf};
+ghost use Rattle.tokens.specs.Tokens.{simple as simpleSort};
+ghost use Rattle.tokens.specs.Runs.{sortOf};
+ghost use Rattle.reading.specs.Making.{judged, judged-last, within-groups, group-begins, group-ends, element-ends, array-ends, adds, word as wordOf};
 ghost use Rattle.reading.specs.Judging.{meaning, judges, kinds-fine};
 use chars::limits;
 
@@ -136,4 +138,84 @@ fn word(c: u8, opened: bool) -> Verdict
         return makes(0, 15, 0, 2, 0, false, opened);
     }
     makes(0, 16, 0, 1, 0, false, opened)
+}
+
+// A simple token in regular mode, by its first byte.
+fn regular(c: u8, opened: bool, depth: usize, top: u32) -> Verdict
+    ensures { λ r. ⌜ judges r c depth top false opened × kinds-fine r ⌝ }
+{
+    if c == b'%' {
+        return makes(0, 1, 0, 0, 0, true, false);
+    }
+    if c == b';' {
+        return Verdict::Refuses { number: 11 };
+    }
+    if c == b'(' {
+        return group_begins(depth);
+    }
+    if c == b')' {
+        return group_ends(depth, top);
+    }
+    if c == b'[' {
+        return makes(0, 0, 0, 0, 0, false, true);
+    }
+    if c == b',' {
+        return element_ends(top);
+    }
+    if c == b']' {
+        return array_ends(opened, top);
+    }
+    word(c, opened)
+}
+
+// A simple token in metacommand mode: `%` is 10, `;` ends the mode, and every other token is a metacommand token.
+fn command(c: u8, opened: bool) -> Verdict
+    ensures { λ r. ⌜ ((place : ℕ) (text groups : List ℕ) → getD text 0 0 ≡ c → meaning r place text [] groups ≡ judged base simpleSort (record { metacommand = true; opened = opened; groups = groups }) place text []) × kinds-fine r ⌝ }
+{
+    if c == b'%' {
+        return Verdict::Refuses { number: 10 };
+    }
+    if c == b';' {
+        return makes(0, 2, 0, 0, 0, false, false);
+    }
+    makes(0, 3, 0, 1, 0, true, opened)
+}
+
+// A simple token.
+pub fn simple(c: u8, metacommand: bool, opened: bool, depth: usize, top: u32) -> Verdict
+    ensures { λ r. ⌜ judges r c depth top metacommand opened × kinds-fine r ⌝ }
+{
+    if metacommand {
+        return command(c, opened);
+    }
+    regular(c, opened, depth, top)
+}
+
+// A string token.
+pub fn string(curly: bool, metacommand: bool, opened: bool) -> Verdict
+    ensures { λ r. ⌜ ((place : ℕ) (text string groups : List ℕ) → meaning r place text string groups ≡ judged base (sortOf curly) (record { metacommand = metacommand; opened = opened; groups = groups }) place text string) × kinds-fine r ⌝ }
+{
+    if metacommand {
+        if curly {
+            return makes(0, 5, 0, 1, 0, true, opened);
+        }
+        return makes(0, 4, 0, 1, 0, true, opened);
+    }
+    if curly {
+        return makes(0, 11, 0, 1, 0, false, opened);
+    }
+    makes(0, 10, 0, 1, 0, false, opened)
+}
+
+// `|;`: 12 in a metacommand, 13 with a group or an array open.
+pub fn last(metacommand: bool, opened: bool, depth: usize) -> Verdict
+    ensures { λ r. ⌜ ((place : ℕ) (text groups : List ℕ) → length groups ≡ depth → meaning r place text [] groups ≡ judged-last (record { metacommand = metacommand; opened = opened; groups = groups }) place) × kinds-fine r ⌝ }
+{
+    if metacommand {
+        return Verdict::Refuses { number: 12 };
+    }
+    if 0 < depth {
+        return Verdict::Refuses { number: 13 };
+    }
+    makes(0, 17, 0, 0, 0, false, opened)
 }

@@ -1,0 +1,33 @@
+-- `reading::judge::simple` meets its contract: the mode decides. Assumes nothing.
+use mathlib.Core.Path.{_≡_, refl, sym, _∙_, ap}
+use mathlib.Core.List.{List}
+use native.Mathlib.Omega.{arith}
+use lib.ListN.{length, getD}
+use borrow.Author.Tests.{eq-eqb, ne-eqb, lt-ltb, le-ltb}
+use Rattle.reading.specs.Entity.{bare}
+use Rattle.reading.specs.Making.{within-groups, group-begins, adds, named, regular, command, literal, string-kind, judged, judged-last}
+use Rattle.reading.specs.Judging.{meaning, madeEntities, bares, lasts, cut, groupsAfter, kindOf, judges, kinds-fine}
+use borrow.Author.Needs.{needs}
+use Rattle.reading.proofs.judge.simple.Statement.{statement}
+use Rattle.reading.proofs.judge.simple.Tie as tie
+use Rattle.reading.proofs.judge.simple.Reads as reads
+use Rattle.reading.proofs.judge.simple.Lts as lts
+use Rattle.reading.proofs.judge.command.Reads as command-reads
+use Rattle.reading.proofs.judge.regular.Reads as regular-reads
+
+command-requires : tie.Need-command-requires
+command-requires c κs = search needs
+
+returns : tie.Need-returns
+unfolding judges
+returns c = (λ place text groups e d t. rw (c .before .if1 .taken) (c .command .ensures .0 place text groups e), c .command .ensures .1)
+
+regular-requires : tie.Need-regular-requires
+regular-requires c κs = search needs
+
+returns-2 : tie.Need-returns-2
+unfolding judges
+returns-2 c = (λ place text groups e d t. rw (c .before .if1 .left) (c .regular .ensures .0 place text groups e d t), c .regular .ensures .1)
+
+pub simple-spec : {M : Type 1} → statement M
+simple-spec = tie.close (tie.spec command-requires returns regular-requires returns-2)
