@@ -2,3 +2,4 @@ pub mod Computes
 pub mod Listing
 pub mod Filling
 pub mod Judgements
+pub mod OpenGroups

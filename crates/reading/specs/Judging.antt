@@ -1,5 +1,5 @@
 -- What the code answers about one token, and what it means in the words of Making. Nothing here says more of the format than Making does.
-use Prim.Native.Nat.{ℕ, suc, _+_, _*_, _≤_}
+use Prim.Native.Nat.{ℕ, suc, _+_, _*_, _<_, _≤_}
 use mathlib.Core.Path.{_≡_}
 use mathlib.Core.Bool.{Bool, true, false}
 use mathlib.Core.List.{List, [], _∷_, _++_, tail}
@@ -95,10 +95,10 @@ judges v c depth top metacommand opened =
     → meaning v place text [] groups
     ≡ judged limits simple (record { metacommand = metacommand; opened = opened; groups = groups }) place text []
 
--- the kinds are numbers of 0 to 17
-unfoldable pub kinds-fine : Verdict → Type 0
-kinds-fine (Refuses n) = Unit {0}
-kinds-fine (Makes m) = (m .first ≤ 17) × (m .last ≤ 17)
+-- the kinds are numbers of 0 to 17, and a group begins only where there is room for one
+unfoldable pub kinds-fine : Verdict → (depth : ℕ) → Type 0
+kinds-fine (Refuses n) depth = Unit {0}
+kinds-fine (Makes m) depth = (m .first ≤ 17) × (m .last ≤ 17) × (m .groups ≡ 1 → depth < 64)
 
 -- the list with entities written behind the first `k`, whose text begins at `t`, and past them as before
 unfoldable pub written : (before : List ℕ) → (k t : ℕ) → List Entity → List ℕ

@@ -1,4 +1,5 @@
 pub mod Entity
 pub mod Making
 pub mod Judging
+pub mod Stepping
 pub mod Reading

@@ -58,7 +58,7 @@ fn makes(
 
 // `(`: 17 over the limit.
 fn group_begins(depth: usize) -> Verdict
-    ensures { λ r. ⌜ ((place : ℕ) (text groups : List ℕ) → length groups ≡ depth → meaning r place text [] groups ≡ group-begins base (within-groups groups) place) × kinds-fine r ⌝ }
+    ensures { λ r. ⌜ ((place : ℕ) (text groups : List ℕ) → length groups ≡ depth → meaning r place text [] groups ≡ group-begins base (within-groups groups) place) × kinds-fine r depth ⌝ }
 {
     if depth < limits::GROUPS {
         return makes(0, 6, 0, 0, 1, false, false);
@@ -68,7 +68,7 @@ fn group_begins(depth: usize) -> Verdict
 
 // `)`: 14 where the innermost open group is none of its own.
 fn group_ends(depth: usize, top: u32) -> Verdict
-    ensures { λ r. ⌜ ((place : ℕ) (text groups : List ℕ) → length groups ≡ depth → getD groups 0 0 ≡ top → meaning r place text [] groups ≡ group-ends groups place) × kinds-fine r ⌝ }
+    ensures { λ r. ⌜ ((place : ℕ) (text groups : List ℕ) → length groups ≡ depth → getD groups 0 0 ≡ top → meaning r place text [] groups ≡ group-ends groups place) × kinds-fine r depth ⌝ }
 {
     if depth == 0 {
         return Verdict::Refuses { number: 14 };
@@ -81,7 +81,7 @@ fn group_ends(depth: usize, top: u32) -> Verdict
 
 // `,`: 15 where the innermost open group is no element.
 fn element_ends(top: u32) -> Verdict
-    ensures { λ r. ⌜ ((place : ℕ) (text groups : List ℕ) → getD groups 0 0 ≡ top → meaning r place text [] groups ≡ element-ends groups place) × kinds-fine r ⌝ }
+    ensures { λ r. ⌜ ((place : ℕ) (text groups : List ℕ) → getD groups 0 0 ≡ top → meaning r place text [] groups ≡ element-ends groups place) × ((depth : ℕ) → kinds-fine r depth) ⌝ }
 {
     if top == 0 {
         return Verdict::Refuses { number: 15 };
@@ -91,7 +91,7 @@ fn element_ends(top: u32) -> Verdict
 
 // `]`: 16 where the innermost open group is no element, unless the array has just begun.
 fn array_ends(opened: bool, top: u32) -> Verdict
-    ensures { λ r. ⌜ ((place : ℕ) (text groups : List ℕ) → getD groups 0 0 ≡ top → meaning r place text [] groups ≡ array-ends opened groups place) × kinds-fine r ⌝ }
+    ensures { λ r. ⌜ ((place : ℕ) (text groups : List ℕ) → getD groups 0 0 ≡ top → meaning r place text [] groups ≡ array-ends opened groups place) × ((depth : ℕ) → kinds-fine r depth) ⌝ }
 {
     if opened {
         return makes(0, 8, 0, 0, 0, false, false);
@@ -120,7 +120,7 @@ fn is_number(c: u8) -> bool
 
 // Any other simple token in regular mode, by its first byte.
 fn word(c: u8, opened: bool) -> Verdict
-    ensures { λ r. ⌜ ((place : ℕ) (text groups : List ℕ) → getD text 0 0 ≡ c → meaning r place text [] groups ≡ adds (record { metacommand = false; opened = opened; groups = groups }) (wordOf place text)) × kinds-fine r ⌝ }
+    ensures { λ r. ⌜ ((place : ℕ) (text groups : List ℕ) → getD text 0 0 ≡ c → meaning r place text [] groups ≡ adds (record { metacommand = false; opened = opened; groups = groups }) (wordOf place text)) × ((depth : ℕ) → kinds-fine r depth) ⌝ }
 {
     if is_number(c) {
         return makes(0, 9, 0, 1, 0, false, opened);
@@ -142,7 +142,7 @@ fn word(c: u8, opened: bool) -> Verdict
 
 // A simple token in regular mode, by its first byte.
 fn regular(c: u8, opened: bool, depth: usize, top: u32) -> Verdict
-    ensures { λ r. ⌜ judges r c depth top false opened × kinds-fine r ⌝ }
+    ensures { λ r. ⌜ judges r c depth top false opened × kinds-fine r depth ⌝ }
 {
     if c == b'%' {
         return makes(0, 1, 0, 0, 0, true, false);
@@ -170,7 +170,7 @@ fn regular(c: u8, opened: bool, depth: usize, top: u32) -> Verdict
 
 // A simple token in metacommand mode: `%` is 10, `;` ends the mode, and every other token is a metacommand token.
 fn command(c: u8, opened: bool) -> Verdict
-    ensures { λ r. ⌜ ((place : ℕ) (text groups : List ℕ) → getD text 0 0 ≡ c → meaning r place text [] groups ≡ judged base simpleSort (record { metacommand = true; opened = opened; groups = groups }) place text []) × kinds-fine r ⌝ }
+    ensures { λ r. ⌜ ((place : ℕ) (text groups : List ℕ) → getD text 0 0 ≡ c → meaning r place text [] groups ≡ judged base simpleSort (record { metacommand = true; opened = opened; groups = groups }) place text []) × ((depth : ℕ) → kinds-fine r depth) ⌝ }
 {
     if c == b'%' {
         return Verdict::Refuses { number: 10 };
@@ -183,7 +183,7 @@ fn command(c: u8, opened: bool) -> Verdict
 
 // A simple token.
 pub fn simple(c: u8, metacommand: bool, opened: bool, depth: usize, top: u32) -> Verdict
-    ensures { λ r. ⌜ judges r c depth top metacommand opened × kinds-fine r ⌝ }
+    ensures { λ r. ⌜ judges r c depth top metacommand opened × kinds-fine r depth ⌝ }
 {
     if metacommand {
         return command(c, opened);
@@ -193,7 +193,7 @@ pub fn simple(c: u8, metacommand: bool, opened: bool, depth: usize, top: u32) ->
 
 // A string token.
 pub fn string(curly: bool, metacommand: bool, opened: bool) -> Verdict
-    ensures { λ r. ⌜ ((place : ℕ) (text string groups : List ℕ) → meaning r place text string groups ≡ judged base (sortOf curly) (record { metacommand = metacommand; opened = opened; groups = groups }) place text string) × kinds-fine r ⌝ }
+    ensures { λ r. ⌜ ((place : ℕ) (text string groups : List ℕ) → meaning r place text string groups ≡ judged base (sortOf curly) (record { metacommand = metacommand; opened = opened; groups = groups }) place text string) × ((depth : ℕ) → kinds-fine r depth) ⌝ }
 {
     if metacommand {
         if curly {
@@ -209,7 +209,7 @@ pub fn string(curly: bool, metacommand: bool, opened: bool) -> Verdict
 
 // `|;`: 12 in a metacommand, 13 with a group or an array open.
 pub fn last(metacommand: bool, opened: bool, depth: usize) -> Verdict
-    ensures { λ r. ⌜ ((place : ℕ) (text groups : List ℕ) → length groups ≡ depth → meaning r place text [] groups ≡ judged-last (record { metacommand = metacommand; opened = opened; groups = groups }) place) × kinds-fine r ⌝ }
+    ensures { λ r. ⌜ ((place : ℕ) (text groups : List ℕ) → length groups ≡ depth → meaning r place text [] groups ≡ judged-last (record { metacommand = metacommand; opened = opened; groups = groups }) place) × kinds-fine r depth ⌝ }
 {
     if metacommand {
         return Verdict::Refuses { number: 12 };

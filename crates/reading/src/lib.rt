@@ -1,5 +1,6 @@
 // From tokens to entities: Shastina Specification, section 5, and document 01, "From tokens to entities".
 
+pub mod groups;
 pub mod judge;
 pub mod rows;
 

@@ -15,14 +15,14 @@ use Rattle.reading.proofs.judge.makes.Reads as makes-reads
 
 returns : tie.Need-returns
 unfolding meaning madeEntities bares lasts cut groupsAfter kindOf kinds-fine bare within-groups counted
-returns c = (λ place text groups t. sym (no-element groups place (t ∙ c .if1 .taken)), tt)
+returns c = (λ place text groups t. sym (no-element groups place (t ∙ c .if1 .taken)), λ depth. tt)
 
 makes-requires : tie.Need-makes-requires
 makes-requires c κs = search needs
 
 returns-2 : tie.Need-returns-2
 unfolding meaning madeEntities bares lasts cut groupsAfter kindOf kinds-fine bare within-groups counted
-returns-2 c = (λ place text groups t. rw (c .makes .ensures) (sym (next-element groups place (λ z. c .before .if1 .left (sym t ∙ z)))), rw (c .makes .ensures) (omega arith))
+returns-2 c = (λ place text groups t. rw (c .makes .ensures) (sym (next-element groups place (λ z. c .before .if1 .left (sym t ∙ z)))), λ depth. rw (c .makes .ensures) (omega arith))
 
 pub element-ends-spec : {M : Type 1} → statement M
 element-ends-spec = tie.close (tie.spec returns makes-requires returns-2)

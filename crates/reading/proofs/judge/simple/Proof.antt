@@ -20,7 +20,7 @@ command-requires c κs = search needs
 
 returns : tie.Need-returns
 unfolding judges
-returns c = (λ place text groups e d t. rw (c .before .if1 .taken) (c .command .ensures .0 place text groups e), c .command .ensures .1)
+returns c = (λ place text groups e d t. rw (c .before .if1 .taken) (c .command .ensures .0 place text groups e), c .command .ensures .1 (c .before .before .args .depth))
 
 regular-requires : tie.Need-regular-requires
 regular-requires c κs = search needs
