@@ -3,3 +3,4 @@ pub mod Listing
 pub mod Filling
 pub mod Judgements
 pub mod OpenGroups
+pub mod Cutting

@@ -1,5 +1,5 @@
 -- What the code answers about one token, and what it means in the words of Making. Nothing here says more of the format than Making does.
-use Prim.Native.Nat.{ℕ, suc, _+_, _*_, _<_, _≤_}
+use Prim.Native.Nat.{ℕ, suc, _+_, _-_, _*_, _<_, _≤_}
 use mathlib.Core.Path.{_≡_}
 use mathlib.Core.Bool.{Bool, true, false}
 use mathlib.Core.List.{List, [], _∷_, _++_, tail}
@@ -107,3 +107,15 @@ written before k t es = take (6 * k) before ++ (rows t es ++ drop (6 * (k + leng
 -- the text buffer likewise
 unfoldable pub textWritten : (before : List ℕ) → (t : ℕ) → List Entity → List ℕ
 textWritten before t es = take t before ++ (texts es ++ drop (t + sizes es) before)
+
+-- where the text of an entity begins in the draft, and how many bytes it has
+unfoldable pub cutFrom : (how place : ℕ) → ℕ
+cutFrom how place = if eqb how 0 then place else if eqb how 1 then place else place + 1
+
+unfoldable pub cutLength : (how prefix : ℕ) → ℕ
+cutLength how prefix = if eqb how 0 then 0 else if eqb how 1 then prefix else prefix - 1
+
+-- the entities of a token, an inserted begin group (`lead` is 6, or 0 for none) first, with its text and data cut from the draft
+unfoldable pub tokenEntities : (draft : List ℕ) → (lead : ℕ) → Made → (place prefix from n : ℕ) → List Entity
+tokenEntities draft lead m place prefix from n =
+    bares lead place ++ madeEntities m place (clean prefix (streamAt draft place)) (clean n (streamAt draft from))

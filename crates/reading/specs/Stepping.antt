@@ -1,11 +1,22 @@
 -- What the code keeps between tokens, and what one token does to it, in the words of Making. Nothing here says more of the format than Making
 -- does.
-use Prim.Native.Nat.{ℕ, zero, suc, _+_, _-_, _≤_, _/_}
+use Prim.Native.Nat.{ℕ, zero, suc, _+_, _-_, _*_, _<_, _≤_, _/_, _^_}
 use mathlib.Core.Path.{_≡_}
 use mathlib.Core.Bool.{Bool, true, false}
-use mathlib.Core.List.{List, [], _∷_}
+use mathlib.Core.List.{List, [], _∷_, _++_}
 use lib.Dec.{eqb}
 use lib.ListN.{length, getD}
+use Rattle.chars.specs.Choice.{if_then_else_}
+use Rattle.chars.specs.Limits.{limits}
+use Rattle.chars.specs.Stream.{streamAt, clean}
+use Rattle.tokens.specs.Tokens.{Sort, simple, quoted, curly}
+use Rattle.tokens.specs.Runs.{classOf}
+use Rattle.reading.specs.Entity.{Entity, sizes}
+use Rattle.reading.specs.Making.{Reader, Judged, Room, Handled, stops, holds, closing, judged, judged-last}
+use Rattle.reading.specs.Judging.{written, textWritten}
+use Rattle.reading.specs.declared.step.State.{State}
+use Rattle.reading.specs.declared.step.Step.{Step}
+use Rattle.reading.specs.declared.step.Step.the-variants.{Goes, Stops}
 
 -- the open groups, innermost first
 unfoldable pub openGroups : (array : List ℕ) → (depth : ℕ) → List ℕ
@@ -16,3 +27,57 @@ openGroups array (suc depth) = getD array depth 0 ∷ openGroups array depth
 unfoldable pub below : List ℕ → (most : ℕ) → Type 0
 below [] most = Unit {0}
 below (n ∷ groups) most = (n ≤ most) × below groups most
+
+-- a token's sort, as the code has it: 0 simple, 1 quoted, 2 curly, 3 the last
+unfoldable pub judgedAs : (sort : ℕ) → Reader → (place : ℕ) → (text string : List ℕ) → Judged
+judgedAs sort r place text string =
+    if eqb sort 0 then judged limits simple r place text string
+    else if eqb sort 1 then judged limits quoted r place text string
+    else if eqb sort 2 then judged limits curly r place text string
+    else judged-last r place
+
+unfoldable pub closingAs : (sort : ℕ) → (text : List ℕ) → Bool
+closingAs sort text = if eqb sort 0 then closing simple text else false
+
+-- what the tokens so far leave open
+unfoldable pub readerOf : State → (groups : List ℕ) → Reader
+readerOf s groups =
+    record { metacommand = s .metacommand; opened = s .opened; groups = openGroups groups (s .depth) }
+
+-- the room that is left
+unfoldable pub roomLeft : State → (list text : List ℕ) → Room
+roomLeft s list text = record { entities = length list / 6 - s .entities; text = length text - s .text }
+
+-- A token's text and data as reading cuts them: they are as long as it says, and its first byte is a character by itself.
+pub record Contents (draft : List ℕ) (place prefix from n : ℕ) : Type 0 where
+  pub here : place < length draft
+  pub text-long : length (clean prefix (streamAt draft place)) ≡ prefix
+  pub string-long : length (clean n (streamAt draft from)) ≡ n
+  pub own : 1 ≤ prefix → 1 ≤ classOf (getD draft place 0)
+
+-- What is held so far lies within the buffers, and all numbers are small.
+pub record Ready (s : State) (list text groups : List ℕ) (at : ℕ) : Type 0 where
+  pub deep : s .depth ≤ 64
+  pub array : length groups ≡ 64
+  pub held : 6 * s .entities ≤ length list
+  pub used : s .text ≤ length text
+  pub small : s .text < 2 ^ 31
+  pub numbers : below (openGroups groups (s .depth)) at
+
+-- What one token did, against what Making says of it: the same refusal and nothing written, or the same entities written, the same room left and
+-- the same left open.
+unfoldable pub agrees :
+    Handled → Step → (s : State) → (list text list′ text′ groups′ : List ℕ) → Type 0
+agrees (stops n) (Stops m) s list text list′ text′ groups′ = (m ≡ n) × (list′ ≡ list) × (text′ ≡ text)
+agrees (stops n) (Goes t) s list text list′ text′ groups′ = ⊥
+agrees (holds es room r) (Stops m) s list text list′ text′ groups′ = ⊥
+agrees (holds es room r) (Goes t) s list text list′ text′ groups′ =
+    (list′ ≡ written list (s .entities) (s .text) es)
+    × (text′ ≡ textWritten text (s .text) es)
+    × (t .entities ≡ s .entities + length es)
+    × (t .text ≡ s .text + sizes es)
+    × (r ≡ readerOf t groups′)
+    × (room ≡ roomLeft t list text)
+    × (6 * t .entities ≤ length list)
+    × (t .text ≤ length text)
+    × (t .depth ≤ 64)

@@ -3,6 +3,7 @@
 pub mod groups;
 pub mod judge;
 pub mod rows;
+pub mod step;
 
 // The answer of read and of check. A number that an answer has no use for is 0.
 #[repr(C)]

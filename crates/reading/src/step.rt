@@ -1,0 +1,100 @@
+// One token: an inserted begin group, the token's own rules, room, and then its entities. A token is written only when it is allowed and fits.
+ghost use mathlib.Core.Path.{_≡_};
+ghost use Prim.Native.Nat.{ℕ, _+_, _-_, _*_, _<_, _≤_, _/_, _^_};
+ghost use lib.ListN.{length};
+ghost use Rattle.reading.specs.Entity.{sizes};
+ghost use Rattle.reading.specs.Judging.{tokenEntities, written, textWritten, cutFrom, cutLength};
+ghost use Rattle.reading.specs.Stepping.{Contents};
+use crate::judge::Made;
+use crate::rows::bare;
+use crate::rows::full;
+
+// What the tokens so far leave open, and what is held of them.
+pub struct State {
+    pub metacommand: bool,
+    pub opened: bool,
+    pub depth: usize,
+    pub entities: usize,
+    pub text: usize,
+}
+
+// What a token comes to: the state behind it, or a refusal of 10 to 19 at its place.
+pub enum Step {
+    Goes { state: State },
+    Stops { number: u32 },
+}
+
+// Where the text of an entity begins in the draft.
+fn cut_from(how: u32, place: usize) -> usize
+    requires { ⌜ place < 2 ^ 32 ⌝ }
+    ensures { λ r. ⌜ r ≡ cutFrom how place ⌝ }
+{
+    if how == 0 {
+        return place;
+    }
+    if how == 1 {
+        return place;
+    }
+    place + 1
+}
+
+// How many bytes it has.
+fn cut_length(how: u32, prefix: usize) -> usize
+    ensures { λ r. ⌜ r ≡ cutLength how prefix ⌝ }
+{
+    if how == 0 {
+        return 0;
+    }
+    if how == 1 {
+        return prefix;
+    }
+    if prefix == 0 {
+        return 0;
+    }
+    prefix - 1
+}
+
+// The entities of a token, behind the first `held`: an inserted begin group (`lead` is 6, or 0 for none), and then its own.
+fn write(
+    draft: &[u8],
+    list: &mut [u32],
+    text: &mut [u8],
+    held: usize,
+    used: usize,
+    lead: u32,
+    m: Made,
+    place: usize,
+    prefix: usize,
+    from: usize,
+    data: usize,
+) -> usize
+    requires { ⌜ (lead ≤ 17) × (m .first ≤ 17) × (m .last ≤ 17) × (6 * (held + length (tokenEntities (now draft) lead m place prefix from «data»)) ≤ length (now list)) × (used + sizes (tokenEntities (now draft) lead m place prefix from «data») ≤ length (now text)) × (place < 2 ^ 32) × (used < 2 ^ 32) × (prefix < 2 ^ 32) × («data» < 2 ^ 32) × Contents (now draft) place prefix from «data» ⌝ }
+    ensures { λ r. ⌜ (r ≡ held + length (tokenEntities (now (draft .entry)) lead m place prefix from «data»)) × (now (list .exit) ≡ written (now (list .entry)) held used (tokenEntities (now (draft .entry)) lead m place prefix from «data»)) × (now (text .exit) ≡ textWritten (now (text .entry)) used (tokenEntities (now (draft .entry)) lead m place prefix from «data»)) ⌝ }
+{
+    let one = bare(list, held, used, lead, place);
+    let first = m.first;
+    let two = bare(list, one, used, first, place);
+    let kind = m.last;
+    if kind == 0 {
+        return two;
+    }
+    let how = m.text;
+    let count = m.count;
+    let start = cut_from(how, place);
+    let size = cut_length(how, prefix);
+    full(
+        draft,
+        list,
+        text,
+        two,
+        used,
+        kind,
+        place,
+        start,
+        size,
+        from,
+        data,
+        count,
+    );
+    two + 1
+}
