@@ -4,3 +4,4 @@ pub mod Filling
 pub mod Judgements
 pub mod OpenGroups
 pub mod Cutting
+pub mod Shortages

@@ -3,7 +3,7 @@ use Prim.Native.Nat.{ℕ, suc, _+_, _-_, _*_, _<_, _≤_}
 use mathlib.Core.Path.{_≡_}
 use mathlib.Core.Bool.{Bool, true, false}
 use mathlib.Core.List.{List, [], _∷_, _++_, tail}
-use lib.Dec.{eqb}
+use lib.Dec.{eqb, ltb}
 use lib.ListN.{length, getD, take, drop}
 use Rattle.chars.specs.Choice.{if_then_else_}
 use Rattle.chars.specs.Limits.{limits}
@@ -119,3 +119,17 @@ cutLength how prefix = if eqb how 0 then 0 else if eqb how 1 then prefix else pr
 unfoldable pub tokenEntities : (draft : List ℕ) → (lead : ℕ) → Made → (place prefix from n : ℕ) → List Entity
 tokenEntities draft lead m place prefix from n =
     bares lead place ++ madeEntities m place (clean prefix (streamAt draft place)) (clean n (streamAt draft from))
+
+-- How many entities a kind's number stands for, how many a token has, and how many bytes of text and data.
+unfoldable pub one : (kind : ℕ) → ℕ
+one kind = if eqb kind 0 then 0 else 1
+
+unfoldable pub madeCount : (lead : ℕ) → Made → ℕ
+madeCount lead m = one lead + one (m .first) + one (m .last)
+
+unfoldable pub madeSize : Made → (prefix n : ℕ) → ℕ
+madeSize m prefix n = if eqb (m .last) 0 then 0 else cutLength (m .text) prefix + n
+
+-- 18 or 19 for so many entities of which the last alone has text, or 0 where they fit
+unfoldable pub shortOf : (entities text count size : ℕ) → ℕ
+shortOf entities text count size = if ltb entities count then 18 else if ltb text size then 19 else 0

@@ -3,7 +3,7 @@ ghost use mathlib.Core.Path.{_≡_};
 ghost use Prim.Native.Nat.{ℕ, _+_, _-_, _*_, _<_, _≤_, _/_, _^_};
 ghost use lib.ListN.{length};
 ghost use Rattle.reading.specs.Entity.{sizes};
-ghost use Rattle.reading.specs.Judging.{tokenEntities, written, textWritten, cutFrom, cutLength};
+ghost use Rattle.reading.specs.Judging.{tokenEntities, written, textWritten, cutFrom, cutLength, one as oneOf, madeCount, madeSize, shortOf};
 ghost use Rattle.reading.specs.Stepping.{Contents};
 use crate::judge::Made;
 use crate::rows::bare;
@@ -52,6 +52,50 @@ fn cut_length(how: u32, prefix: usize) -> usize
         return 0;
     }
     prefix - 1
+}
+
+// How many entities a kind stands for: none where it is 0.
+fn one(kind: u32) -> usize
+    ensures { λ r. ⌜ r ≡ oneOf kind ⌝ }
+{
+    if kind == 0 {
+        return 0;
+    }
+    1
+}
+
+// How many bytes of text and data a token's entities have.
+fn size(m: Made, prefix: usize, data: usize) -> usize
+    requires { ⌜ (prefix ≤ 4096) × («data» ≤ 4096) ⌝ }
+    ensures { λ r. ⌜ r ≡ madeSize m prefix «data» ⌝ }
+{
+    let last = m.last;
+    let how = m.text;
+    if last == 0 {
+        return 0;
+    }
+    let own = cut_length(how, prefix);
+    own + data
+}
+
+// 18 or 19 where there is no room for a token's entities, or 0.
+fn shortage(entities: usize, text: usize, lead: u32, m: Made, prefix: usize, data: usize) -> u32
+    requires { ⌜ (prefix ≤ 4096) × («data» ≤ 4096) ⌝ }
+    ensures { λ r. ⌜ r ≡ shortOf entities text (madeCount lead m) (madeSize m prefix «data») ⌝ }
+{
+    let first = m.first;
+    let last = m.last;
+    let a = one(lead);
+    let b = one(first);
+    let c = one(last);
+    if entities < a + b + c {
+        return 18;
+    }
+    let bytes = size(m, prefix, data);
+    if text < bytes {
+        return 19;
+    }
+    0
 }
 
 // The entities of a token, behind the first `held`: an inserted begin group (`lead` is 6, or 0 for none), and then its own.

@@ -1,0 +1,20 @@
+-- `reading::step::one` meets its contract: it asks what the definition asks. Assumes nothing.
+use mathlib.Core.Path.{_≡_, refl, sym, _∙_, ap}
+use native.Mathlib.Omega.{arith}
+use borrow.Author.Tests.{eq-eqb, ne-eqb, lt-ltb, le-ltb}
+use Rattle.reading.specs.Judging.{one, madeCount, madeSize, shortOf, cutLength}
+use Rattle.reading.proofs.step.one.Statement.{statement}
+use Rattle.reading.proofs.step.one.Tie as tie
+use Rattle.reading.proofs.step.one.Reads as reads
+use Rattle.reading.proofs.step.one.Lts as lts
+
+returns : tie.Need-returns
+unfolding one
+returns c = rw (eq-eqb (c .before .args .kind) 0 (c .if1 .taken))
+
+returns-2 : tie.Need-returns-2
+unfolding one
+returns-2 c = rw (ne-eqb (c .before .args .kind) 0 (c .if1 .left))
+
+pub one-spec : {M : Type 1} → statement M
+one-spec = tie.close (tie.spec returns returns-2)
