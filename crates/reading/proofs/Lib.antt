@@ -5,3 +5,5 @@ pub mod Judgements
 pub mod OpenGroups
 pub mod Cutting
 pub mod Shortages
+pub mod Settling
+pub mod BySort

@@ -13,7 +13,8 @@ use Rattle.tokens.specs.Tokens.{Sort, simple, quoted, curly}
 use Rattle.tokens.specs.Runs.{classOf}
 use Rattle.reading.specs.Entity.{Entity, sizes}
 use Rattle.reading.specs.Making.{Reader, Judged, Room, Handled, stops, holds, closing, judged, judged-last}
-use Rattle.reading.specs.Judging.{written, textWritten}
+use Rattle.reading.specs.Judging.{meaning, written, textWritten}
+use Rattle.reading.specs.declared.judge.Verdict.{Verdict}
 use Rattle.reading.specs.declared.step.State.{State}
 use Rattle.reading.specs.declared.step.Step.{Step}
 use Rattle.reading.specs.declared.step.Step.the-variants.{Goes, Stops}
@@ -55,29 +56,38 @@ pub record Contents (draft : List ℕ) (place prefix from n : ℕ) : Type 0 wher
   pub string-long : length (clean n (streamAt draft from)) ≡ n
   pub own : 1 ≤ prefix → 1 ≤ classOf (getD draft place 0)
 
--- What is held so far lies within the buffers, and all numbers are small.
+-- What is held so far lies within the buffers, and all numbers are small for where the next token may begin.
 pub record Ready (s : State) (list text groups : List ℕ) (at : ℕ) : Type 0 where
   pub deep : s .depth ≤ 64
   pub array : length groups ≡ 64
   pub held : 6 * s .entities ≤ length list
   pub used : s .text ≤ length text
-  pub small : s .text < 2 ^ 31
-  pub numbers : below (openGroups groups (s .depth)) at
+  pub small : s .text ≤ 8192 * at
+  pub numbers : below (openGroups groups (s .depth)) (at + 1)
 
 -- What one token did, against what Making says of it: the same refusal and nothing written, or the same entities written, the same room left and
 -- the same left open.
 unfoldable pub agrees :
-    Handled → Step → (s : State) → (list text list′ text′ groups′ : List ℕ) → Type 0
-agrees (stops n) (Stops m) s list text list′ text′ groups′ = (m ≡ n) × (list′ ≡ list) × (text′ ≡ text)
-agrees (stops n) (Goes t) s list text list′ text′ groups′ = ⊥
-agrees (holds es room r) (Stops m) s list text list′ text′ groups′ = ⊥
-agrees (holds es room r) (Goes t) s list text list′ text′ groups′ =
+    Handled → Step → (s : State) → (list text list′ text′ groups′ : List ℕ) → (place : ℕ) → Type 0
+agrees (stops n) (Stops m) s list text list′ text′ groups′ place = (m ≡ n) × (list′ ≡ list) × (text′ ≡ text)
+agrees (stops n) (Goes t) s list text list′ text′ groups′ place = ⊥
+agrees (holds es room r) (Stops m) s list text list′ text′ groups′ place = ⊥
+agrees (holds es room r) (Goes t) s list text list′ text′ groups′ place =
     (list′ ≡ written list (s .entities) (s .text) es)
     × (text′ ≡ textWritten text (s .text) es)
     × (t .entities ≡ s .entities + length es)
     × (t .text ≡ s .text + sizes es)
     × (r ≡ readerOf t groups′)
     × (room ≡ roomLeft t list text)
-    × (6 * t .entities ≤ length list)
-    × (t .text ≤ length text)
-    × (t .depth ≤ 64)
+    × Ready t list text groups′ (place + 1)
+
+-- a token's first byte and its data, where its sort has any
+unfoldable pub shows : (sort c : ℕ) → (text string : List ℕ) → Type 0
+shows sort c text string = (sort ≡ 0 → getD text 0 0 ≡ c) × ((sort ≡ 1 → ⊥) → (sort ≡ 2 → ⊥) → string ≡ [])
+
+-- a verdict about a token of that sort
+unfoldable pub judgesAs : Verdict → (sort c depth top : ℕ) → (metacommand opened : Bool) → Type 0
+judgesAs v sort c depth top metacommand opened =
+    (place : ℕ) (text string groups : List ℕ) → shows sort c text string → length groups ≡ depth → getD groups 0 0 ≡ top
+    → meaning v place text string groups
+    ≡ judgedAs sort (record { metacommand = metacommand; opened = opened; groups = groups }) place text string

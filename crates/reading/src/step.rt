@@ -3,9 +3,16 @@ ghost use mathlib.Core.Path.{_≡_};
 ghost use Prim.Native.Nat.{ℕ, _+_, _-_, _*_, _<_, _≤_, _/_, _^_};
 ghost use lib.ListN.{length};
 ghost use Rattle.reading.specs.Entity.{sizes};
-ghost use Rattle.reading.specs.Judging.{tokenEntities, written, textWritten, cutFrom, cutLength, one as oneOf, madeCount, madeSize, shortOf};
-ghost use Rattle.reading.specs.Stepping.{Contents};
+ghost use Rattle.reading.specs.Judging.{meaning, kinds-fine, bares, tokenEntities, written, textWritten, cutFrom, cutLength, one as oneOf, madeCount, madeSize, shortOf};
+ghost use Rattle.reading.specs.Stepping.{Contents, Ready, openGroups, roomLeft, agrees, judgesAs};
+ghost use Rattle.reading.specs.Making.{fitted};
+ghost use Rattle.chars.specs.Stream.{streamAt, clean};
+use crate::groups::change;
 use crate::judge::Made;
+use crate::judge::Verdict;
+use crate::judge::last;
+use crate::judge::simple;
+use crate::judge::string;
 use crate::rows::bare;
 use crate::rows::full;
 
@@ -141,4 +148,74 @@ fn write(
         count,
     );
     two + 1
+}
+
+// What a token comes to by its own rules: 0 is a simple token with the first byte `c`, 1 a quoted string, 2 a curly one, and 3 the last.
+fn verdict(sort: u32, c: u8, metacommand: bool, opened: bool, depth: usize, top: u32) -> Verdict
+    ensures { λ r. ⌜ judgesAs r sort c depth top metacommand opened × kinds-fine r depth ⌝ }
+{
+    if sort == 0 {
+        return simple(c, metacommand, opened, depth, top);
+    }
+    if sort == 1 {
+        return string(false, metacommand, opened);
+    }
+    if sort == 2 {
+        return string(true, metacommand, opened);
+    }
+    last(metacommand, opened, depth)
+}
+
+// A token that its rules allow: 18 or 19 where it does not fit, else its entities are written and the groups changed.
+fn settle(
+    draft: &[u8],
+    list: &mut [u32],
+    text: &mut [u8],
+    groups: &mut [u32],
+    s: State,
+    lead: u32,
+    m: Made,
+    place: usize,
+    prefix: usize,
+    from: usize,
+    data: usize,
+) -> Step
+    requires { ⌜ (lead ≤ 17) × kinds-fine (Verdict.Makes m) (s .depth) × (place < 16384) × (prefix ≤ 4096) × («data» ≤ 4096) × Contents (now draft) place prefix from «data» × Ready s (now list) (now text) (now groups) place ⌝ }
+    ensures { λ r. ⌜ agrees (fitted (roomLeft s (now (list .entry)) (now (text .entry))) (bares lead place) (meaning (Verdict.Makes m) place (clean prefix (streamAt (now (draft .entry)) place)) (clean «data» (streamAt (now (draft .entry)) from)) (openGroups (now (groups .entry)) (s .depth)))) r s (now (list .entry)) (now (text .entry)) (now (list .exit)) (now (text .exit)) (now (groups .exit)) place ⌝ }
+{
+    let entities = s.entities;
+    let used = s.text;
+    let depth = s.depth;
+    let room = list.len() / 6 - entities;
+    let left = text.len() - used;
+    let number = shortage(room, left, lead, m, prefix, data);
+    if number != 0 {
+        return Step::Stops { number };
+    }
+    let held = write(
+        draft,
+        list,
+        text,
+        entities,
+        used,
+        lead,
+        m,
+        place,
+        prefix,
+        from,
+        data,
+    );
+    let bytes = size(m, prefix, data);
+    let how = m.groups;
+    let open = change(groups, depth, how);
+    let metacommand = m.metacommand;
+    let opened = m.opened;
+    let state = State {
+        metacommand,
+        opened,
+        depth: open,
+        entities: held,
+        text: used + bytes,
+    };
+    Step::Goes { state }
 }
