@@ -22,7 +22,7 @@ use Rattle.reading.proofs.Listing.{no-bare, one-bare, written-more, wri
 
 module _ (draft : List ℕ) (place prefix from n : ℕ) (c : Contents draft place prefix from n) where
   -- the first byte of the text, and the rest
-  first-byte :
+  pub first-byte :
       1 ≤ prefix
       → clean prefix (streamAt draft place) ≡ getD draft place 0 ∷ clean (prefix - 1) (streamAt draft (place + 1))
   first-byte h =

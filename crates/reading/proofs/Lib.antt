@@ -7,3 +7,4 @@ pub mod Cutting
 pub mod Shortages
 pub mod Settling
 pub mod BySort
+pub mod Deciding

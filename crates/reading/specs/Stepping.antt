@@ -4,15 +4,15 @@ use Prim.Native.Nat.{ℕ, zero, suc, _+_, _-_, _*_, _<_, _≤_, _/_, _^_}
 use mathlib.Core.Path.{_≡_}
 use mathlib.Core.Bool.{Bool, true, false}
 use mathlib.Core.List.{List, [], _∷_, _++_}
-use lib.Dec.{eqb}
+use lib.Dec.{eqb, ltb}
 use lib.ListN.{length, getD}
 use Rattle.chars.specs.Choice.{if_then_else_}
 use Rattle.chars.specs.Limits.{limits}
 use Rattle.chars.specs.Stream.{streamAt, clean}
 use Rattle.tokens.specs.Tokens.{Sort, simple, quoted, curly}
 use Rattle.tokens.specs.Runs.{classOf}
-use Rattle.reading.specs.Entity.{Entity, sizes}
-use Rattle.reading.specs.Making.{Reader, Judged, Room, Handled, stops, holds, closing, judged, judged-last}
+use Rattle.reading.specs.Entity.{Entity, bare, begin-group, sizes}
+use Rattle.reading.specs.Making.{Reader, Judged, Room, Handled, stops, holds, fitted, within-groups, closing, judged, judged-last}
 use Rattle.reading.specs.Judging.{meaning, written, textWritten}
 use Rattle.reading.specs.declared.judge.Verdict.{Verdict}
 use Rattle.reading.specs.declared.step.State.{State}
@@ -91,3 +91,15 @@ judgesAs v sort c depth top metacommand opened =
     (place : ℕ) (text string groups : List ℕ) → shows sort c text string → length groups ≡ depth → getD groups 0 0 ≡ top
     → meaning v place text string groups
     ≡ judgedAs sort (record { metacommand = metacommand; opened = opened; groups = groups }) place text string
+
+-- what the next token is known to have: data only where it is a string, and a first byte where it is simple
+unfoldable pub sorted : (sort prefix n : ℕ) → Type 0
+sorted sort prefix n = (sort ≡ 0 → 1 ≤ prefix) × ((sort ≡ 1 → ⊥) → (sort ≡ 2 → ⊥) → n ≡ 0)
+
+-- a token behind `[`, which brings a begin group
+unfoldable pub inserted : Room → (groups : List ℕ) → (place : ℕ) → (Reader → Judged) → Handled
+inserted room groups place judge =
+    if ltb (length groups) (limits .groups)
+    then if eqb (room .entities) 0 then stops 18
+    else fitted room (bare begin-group place ∷ []) (judge (within-groups (1 ∷ groups)))
+    else stops 17
