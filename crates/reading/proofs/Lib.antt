@@ -8,3 +8,4 @@ pub mod Shortages
 pub mod Settling
 pub mod BySort
 pub mod Deciding
+pub mod Walking

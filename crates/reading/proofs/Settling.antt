@@ -67,7 +67,7 @@ module _ (draft : List ℕ) (lead : ℕ) (m : Made) (place prefix from n : ℕ) 
     pub roomy : (6 * (s .entities + length all) ≤ length list) × (s .text + sizes all ≤ length text)
     roomy =
         let f = fits (length list / 6 - s .entities) (length text - s .text) all
-          (shortage-is draft lead m place prefix from n c (length list / 6 - s .entities) (length text - s .text) ∙ enough) in
+        (shortage-is draft lead m place prefix from n c (length list / 6 - s .entities) (length text - s .text) ∙ enough) in
         (omega (arith, f .0, ready .held), omega (arith, f .1, ready .used))
 
     pub allowed-as :
@@ -85,13 +85,19 @@ module _ (draft : List ℕ) (lead : ℕ) (m : Made) (place prefix from n : ℕ) 
         let size : bytes ≡ sizes all = b ∙ sym much in
         let many : length list / 6 - s .entities - length all ≡ length list / 6 - held = omega (arith, h) in
         let much-left : length text - s .text - sizes all ≡ length text - (s .text + bytes) = omega (arith, size) in
-        rw (comes-is, eq-eqb short 0 enough)
-        (l, t, h, ap (λ k. s .text + k) size, ap (λ gs. record { metacommand = m .metacommand; opened = m .opened; groups = gs }) (sym g), rw (many, much-left),
-        record {
-          deep = o;
-          array = k;
-          held = omega (arith, roomy .0);
-          used = omega (arith, roomy .1);
-          small = omega (arith, ready .small);
-          numbers = rw g (below-after (m .groups) (openGroups groups (s .depth)) (place + 1) (ready .numbers));
-        })
+        rw (comes-is, eq-eqb short 0 enough) (
+          l,
+          t,
+          h,
+          ap (λ k. s .text + k) size,
+          ap (λ gs. record { metacommand = m .metacommand; opened = m .opened; groups = gs }) (sym g),
+          rw (many, much-left),
+          record {
+            deep = o;
+            array = k;
+            held = omega (arith, roomy .0);
+            used = omega (arith, roomy .1);
+            small = omega (arith, ready .small);
+            numbers = rw g (below-after (m .groups) (openGroups groups (s .depth)) (place + 1) (ready .numbers));
+          },
+        )

@@ -9,11 +9,15 @@ use lib.ListN.{length, getD}
 use Rattle.chars.specs.Choice.{if_then_else_}
 use Rattle.chars.specs.Limits.{limits}
 use Rattle.chars.specs.Stream.{streamAt, clean}
-use Rattle.tokens.specs.Tokens.{Sort, simple, quoted, curly}
+use Rattle.tokens.specs.Tokens.{Sort, simple, quoted, curly, tokens, between}
+use Rattle.tokens.specs.declared.Token.{Token}
+use Rattle.tokens.specs.declared.Token.the-variants.{Simple, Quoted, Curly, Last, Refused}
 use Rattle.tokens.specs.Runs.{classOf}
 use Rattle.reading.specs.Entity.{Entity, bare, begin-group, sizes}
 use Rattle.reading.specs.Making.{Reader, Judged, Room, Handled, stops, holds, fitted, within-groups, closing, judged, judged-last}
 use Rattle.reading.specs.Judging.{meaning, written, textWritten}
+use Rattle.reading.specs.Reading.{Read, before, readWith, roomOf, entities}
+use Rattle.reading.specs.declared.Piece.{Piece}
 use Rattle.reading.specs.declared.judge.Verdict.{Verdict}
 use Rattle.reading.specs.declared.step.State.{State}
 use Rattle.reading.specs.declared.step.Step.{Step}
@@ -103,3 +107,33 @@ inserted room groups place judge =
     then if eqb (room .entities) 0 then stops 18
     else fitted room (bare begin-group place ∷ []) (judge (within-groups (1 ∷ groups)))
     else stops 17
+
+-- a token as the code takes it apart: 4 stands for a refusal, and a part that it has not is 0
+unfoldable pub pieceOf : Token → Piece
+pieceOf (Simple place after length) =
+    record { sort = 0; place = place; after = after; prefix = length; from = 0; bytes = 0; number = 0 }
+pieceOf (Quoted place after prefix from length) =
+    record { sort = 1; place = place; after = after; prefix = prefix; from = from; bytes = length; number = 0 }
+pieceOf (Curly place after prefix from length) =
+    record { sort = 2; place = place; after = after; prefix = prefix; from = from; bytes = length; number = 0 }
+pieceOf (Last place after) =
+    record { sort = 3; place = place; after = after; prefix = 0; from = 0; bytes = 0; number = 0 }
+pieceOf (Refused number place) =
+    record { sort = 4; place = place; after = 0; prefix = 0; from = 0; bytes = 0; number = number }
+
+-- What is read so far: entities that both buffers hold, and behind them `x` is still to be read.
+pub record SoFar (draft list₀ text₀ list text groups : List ℕ) (s : State) (at : ℕ) (x : Read) : Type 0 where
+  pub es : List Entity
+  pub list-is : list ≡ written list₀ 0 0 es
+  pub text-is : text ≡ textWritten text₀ 0 es
+  pub many : s .entities ≡ length es
+  pub much : s .text ≡ sizes es
+  pub same-list : length list ≡ length list₀
+  pub same-text : length text ≡ length text₀
+  pub ready : Ready s list text groups at
+  pub rest : readWith limits (roomOf list₀ text₀) draft ≡ before es x
+
+-- what the tokens from a place on still come to
+unfoldable pub ahead : (draft list text groups : List ℕ) → State → (at : ℕ) → Read
+ahead draft list text groups s at =
+    entities limits draft (roomLeft s list text) (readerOf s groups) (tokens limits between (streamAt draft at))

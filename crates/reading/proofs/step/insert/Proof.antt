@@ -28,11 +28,17 @@ add-t19 : tie.Need-add-t19
 add-t19 c = search needs
 
 decide-requires : tie.Need-decide-requires
-decide-requires c κs = 
+decide-requires c κs =
     let p = c .before .before .before .before .before .before .before .before .before .before .before .before .before .pre in
-    let after = c .before .before .before .before .before .push in
-    (omega arith, p .0, p .1, p .2, p .3, p .4,
-     ready-within (c .before .before .before .before .before .before .before .before .before .before .before .before .before .args .s) (c .before .before .before .before .before .before .before .before .before .before .before .before .before .args .list .now) (c .before .before .before .before .before .before .before .before .before .before .before .before .before .args .text .now) (c .before .before .before .before .before .before .before .before .before .before .before .before .before .args .groups .now) (c .before .before .before .before .before .before .before .before .before .before .before .before .before .args .place) (c .before .before .before .before .before .before .before .before .before .before .before .before .before .args .sort) (c .before .before .before .before .before .before .before .before .before .before .before .before .before .args .c) (clean (c .before .before .before .before .before .before .before .before .before .before .before .before .before .args .prefix) (streamAt (c .before .before .before .before .before .before .before .before .before .before .before .before .before .args .draft .now) (c .before .before .before .before .before .before .before .before .before .before .before .before .before .args .place))) (clean (c .before .before .before .before .before .before .before .before .before .before .before .before .before .args .data) (streamAt (c .before .before .before .before .before .before .before .before .before .before .before .before .before .args .draft .now) (c .before .before .before .before .before .before .before .before .before .before .before .before .before .args .from))) (after .last .0) (omega (arith, c .before .before .before .before .before .before .before .before .if1 .left)) (p .5) (omega (arith, after .kept, p .5 .array)) (after .ensures))
+    let after = c .before .before .before .before .before .push in (
+      omega arith,
+      p .0,
+      p .1,
+      p .2,
+      p .3,
+      p .4,
+      ready-within (c .before .before .before .before .before .before .before .before .before .before .before .before .before .args .s) (c .before .before .before .before .before .before .before .before .before .before .before .before .before .args .list .now) (c .before .before .before .before .before .before .before .before .before .before .before .before .before .args .text .now) (c .before .before .before .before .before .before .before .before .before .before .before .before .before .args .groups .now) (c .before .before .before .before .before .before .before .before .before .before .before .before .before .args .place) (c .before .before .before .before .before .before .before .before .before .before .before .before .before .args .sort) (c .before .before .before .before .before .before .before .before .before .before .before .before .before .args .c) (clean (c .before .before .before .before .before .before .before .before .before .before .before .before .before .args .prefix) (streamAt (c .before .before .before .before .before .before .before .before .before .before .before .before .before .args .draft .now) (c .before .before .before .before .before .before .before .before .before .before .before .before .before .args .place))) (clean (c .before .before .before .before .before .before .before .before .before .before .before .before .before .args .data) (streamAt (c .before .before .before .before .before .before .before .before .before .before .before .before .before .args .draft .now) (c .before .before .before .before .before .before .before .before .before .before .before .before .before .args .from))) (after .last .0) (omega (arith, c .before .before .before .before .before .before .before .before .if1 .left)) (p .5) (omega (arith, after .kept, p .5 .array)) (after .ensures),
+    )
 
 same-length : tie.Need-same-length
 same-length c = search needs
@@ -44,10 +50,10 @@ same-length-3 : tie.Need-same-length-3
 same-length-3 c = search needs
 
 returns-3 : tie.Need-returns-3
-returns-3 c = 
+returns-3 c =
     let after = c .before .before .before .before .before .before .decide in
     brought (c .before .before .before .before .before .before .before .before .before .before .before .before .before .before .before .before .before .before .before .before .args .s) (c .before .before .before .before .before .before .before .before .before .before .before .before .before .before .before .before .before .before .before .before .args .list .now) (c .before .before .before .before .before .before .before .before .before .before .before .before .before .before .before .before .before .before .before .before .args .text .now) (c .before .before .before .before .before .before .before .before .before .before .before .before .before .before .before .before .before .before .before .before .args .groups .now) (c .before .before .before .before .before .before .before .before .before .before .before .before .before .before .before .before .before .before .before .before .args .place) (c .before .before .before .before .before .before .before .before .before .before .before .before .before .before .before .before .before .before .before .before .args .sort) (c .before .before .before .before .before .before .before .before .before .before .before .before .before .before .before .before .before .before .before .before .args .c) (clean (c .before .before .before .before .before .before .before .before .before .before .before .before .before .before .before .before .before .before .before .before .args .prefix) (streamAt (c .before .before .before .before .before .before .before .before .before .before .before .before .before .before .before .before .before .before .before .before .args .draft .now) (c .before .before .before .before .before .before .before .before .before .before .before .before .before .before .before .before .before .before .before .before .args .place))) (clean (c .before .before .before .before .before .before .before .before .before .before .before .before .before .before .before .before .before .before .before .before .args .data) (streamAt (c .before .before .before .before .before .before .before .before .before .before .before .before .before .before .before .before .before .before .before .before .args .draft .now) (c .before .before .before .before .before .before .before .before .before .before .before .before .before .before .before .before .before .before .before .before .args .from))) (omega (arith, c .before .before .before .before .before .before .before .before .before .before .before .before .before .before .before .if1 .left)) (c .before .before .before .before .before .before .before .before .before .before .before .before .push .last .0) (after .result)
-      (after .last .1 .0) (after .last .1 .1 .0) (after .last .1 .1 .1 .0) (c .before .before .before .before .before .before .before .before .before .before .before .before .before .before .if2 .left) (c .before .before .before .before .before .before .before .before .before .before .before .before .push .ensures) (after .ensures)
+    (after .last .1 .0) (after .last .1 .1 .0) (after .last .1 .1 .1 .0) (c .before .before .before .before .before .before .before .before .before .before .before .before .before .before .if2 .left) (c .before .before .before .before .before .before .before .before .before .before .before .before .push .ensures) (after .ensures)
 
 pub insert-spec : {M : Type 1} → statement M
 insert-spec =
