@@ -1,10 +1,14 @@
 # make show    runs the main job
 # make test    all tests; the last line is 'N passed, 0 failed'
 # make vectors holds the definitions against tests/vectors
+# make install PREFIX=DIR puts the library for C, its header and its pkg-config file below DIR
 
 VECTORS = $(addprefix tests/vectors/,read.txt check.txt tail.txt step.txt limits.txt) examples/worked.txt
 
-.PHONY: show test vectors setup
+PREFIX = /usr/local
+installed = $(DESTDIR)$(abspath $(PREFIX))
+
+.PHONY: show test vectors install setup
 
 show: setup
 	@tools/vectors --show examples/worked.txt
@@ -14,6 +18,14 @@ test: setup
 
 vectors: setup
 	@tools/vectors $(VECTORS)
+
+install: setup
+	rt staticlib vogieburn
+	install -d $(installed)/include $(installed)/lib/pkgconfig
+	install -m 644 include/vogieburn.h $(installed)/include/
+	install -m 644 target/staticlib/libvogieburn.a $(installed)/lib/
+	sed 's|@PREFIX@|$(abspath $(PREFIX))|' vogieburn.pc.in >$(installed)/lib/pkgconfig/vogieburn.pc
+	chmod 644 $(installed)/lib/pkgconfig/vogieburn.pc
 
 setup:
 	@tools/setup
