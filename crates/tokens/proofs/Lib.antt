@@ -9,3 +9,4 @@ pub mod Starts
 pub mod Copying
 pub mod OneByOne
 pub mod Lengths
+pub mod Refused
