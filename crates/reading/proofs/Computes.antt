@@ -2,7 +2,8 @@
 use Rattle.reading.specs.Entity.{kindNumber, bare, size, sizes, texts, rows}
 use Rattle.reading.specs.Making.{within-groups, adds, group-begins, group-ends, element-ends, counted, array-ends, named, word, regular, command, string-kind, literal, judged, judged-last, shortage, fitted, handled}
 use Rattle.reading.specs.Reading.{refusal, success, before, taken, textOf, stringOf, entities, readWith, answered, roomOf, reading}
+use Rattle.reading.specs.WellMade.{made, well-made}
 
 unfoldable pub computes : Unit {0}
-unfolding kindNumber bare size sizes texts rows within-groups adds group-begins group-ends element-ends counted array-ends named word regular command string-kind literal judged judged-last shortage fitted handled refusal success before taken textOf stringOf entities readWith answered roomOf reading
+unfolding kindNumber bare size sizes texts rows within-groups adds group-begins group-ends element-ends counted array-ends named word regular command string-kind literal judged judged-last shortage fitted handled refusal success before taken textOf stringOf entities readWith answered roomOf reading made well-made
 computes = tt

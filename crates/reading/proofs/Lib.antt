@@ -1,3 +1,4 @@
 pub mod Computes
 pub mod Held
 pub mod Unique
+pub mod Closed

@@ -1,3 +1,4 @@
 pub mod Entity
 pub mod Making
 pub mod Reading
+pub mod WellMade
