@@ -1,12 +1,11 @@
 -- Which refusals a stream of characters ends with, and where: 2 to 5 at the place of the character that is none, or 7 at the draft's end.
-use mathlib.Core.Path.{_≡_, refl, sym, _∙_, ap}
+use mathlib.Core.Path.{_≡_, refl, sym}
 use mathlib.Core.List.{List, [], _∷_}
-use Prim.Native.Nat.{ℕ, zero, suc, _-_, _<_, _≤_}
+use Prim.Native.Nat.{ℕ, zero, suc, _-_, _≤_}
 use native.Mathlib.Omega.{arith}
 use lib.Dec.{leb, eqb}
 use lib.ListN.{length, getD, drop}
 use borrow.Author.Tests.{leb-true, leb-false}
-use Rattle.chars.specs.Choice.{if_then_else_, within}
 use Rattle.chars.specs.Character.{sequence, high, low, paired, judged, carriage, character, characterAt}
 use Rattle.chars.specs.Stream.{Stream, next, stop, begun, stream, streamAt}
 use Rattle.chars.specs.declared.Sequence.{Sequence}

@@ -1,9 +1,9 @@
 -- A reading that succeeds gives entities that are well made. Reader and entities go together: the mode is metacommand where a metacommand
 -- is open, and as many groups are open as have begun and not ended; `|;` is refused unless both are as at the start.
-use mathlib.Core.Path.{_≡_, refl, sym, _∙_, ap}
-use mathlib.Core.Bool.{Bool, true, false, not, _&&_, _||_, true≢false}
-use mathlib.Core.List.{List, [], _∷_, _++_, append-assoc, tail}
-use Prim.Native.Nat.{ℕ, zero, suc, _+_, _-_, _<_, _≤_}
+use mathlib.Core.Path.{_≡_, refl, sym, _∙_}
+use mathlib.Core.Bool.{Bool, true, false, not, _&&_, _||_}
+use mathlib.Core.List.{List, [], _∷_, _++_, append-assoc}
+use Prim.Native.Nat.{ℕ, zero, suc, _-_, _<_, _≤_}
 use native.Mathlib.Omega.{arith}
 use lib.Dec.{ltb, eqb}
 use lib.ListN.{length, getD}
@@ -14,7 +14,7 @@ use Rattle.chars.specs.Stream.{start, streamAt}
 use Rattle.chars.proofs.Cases.{either, both}
 use Rattle.tokens.specs.Tokens.{Sort, simple, quoted, curly, Tokens, token, last, refused, tokens, between}
 use Rattle.tokens.proofs.Refused.{Numbered, numbered}
-use Rattle.reading.specs.Entity.{Entity, Kind, kindNumber, bare, begin-group, end-group, end}
+use Rattle.reading.specs.Entity.{Entity, kindNumber, bare, begin-group, end-group}
 use Rattle.reading.specs.Making.{Reader, fresh, Judged, refuses, makes, within-groups, adds, group-begins, group-ends, element-ends}
 use Rattle.reading.specs.Making.{counted, array-ends, named, word, regular, command, string-kind, literal, judged, judged-last}
 use Rattle.reading.specs.Making.{Room, shortage, Handled, stops, holds, fitted, handled}

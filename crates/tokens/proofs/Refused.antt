@@ -1,11 +1,10 @@
 -- How the tokens of a draft end where no `|;` does: by 2 to 9, and at or behind the byte after the token before. A character is refused at
 -- its own place, and characters come one behind the other.
-use mathlib.Core.Path.{_≡_, refl}
 use mathlib.Core.Bool.{Bool, true, false, not, _&&_}
 use mathlib.Core.List.{List}
 use Prim.Native.Nat.{ℕ, zero, suc, _+_, _<_, _≤_}
 use native.Mathlib.Omega.{arith}
-use lib.Dec.{leb, eqb, ltb}
+use lib.Dec.{eqb, ltb}
 use lib.ListN.{length}
 use Rattle.chars.specs.Choice.{if_then_else_}
 use Rattle.chars.specs.Limits.{Limits}
@@ -13,7 +12,7 @@ use Rattle.chars.specs.Character.{encoded}
 use Rattle.chars.specs.Stream.{Stream, next, stop, streamAt}
 use Rattle.chars.proofs.Refusals.{Stops, stops, stopped-at}
 use Rattle.tokens.specs.Sorts.{visible, white, atomic, exclusive, inclusive, legal}
-use Rattle.tokens.specs.Tokens.{Whole, Tokens, token, last, refused, Opened, State, between, comment, bar, word, string}
+use Rattle.tokens.specs.Tokens.{Whole, Tokens, token, last, refused, State, between, comment, bar, word, string}
 use Rattle.tokens.specs.Tokens.{Outcome, goes, gives, ends, refuses, opens, begins, continues, inside, down, step, follows, tokens}
 use Rattle.tokens.proofs.OneByOne.{Sound, OneByOne, more, final, none, one-by-one}
 use Rattle.tokens.proofs.Skipping.{by-character, reaches}
