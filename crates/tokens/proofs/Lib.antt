@@ -10,3 +10,5 @@ pub mod Copying
 pub mod OneByOne
 pub mod Lengths
 pub mod Refused
+pub mod Spans
+pub mod Agreed
