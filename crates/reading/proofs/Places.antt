@@ -1,41 +1,31 @@
 -- Where the entities held stand: at or behind the start, within the draft, never before the entity held before, and before the place of a
 -- refusal. An entity has the place of its token, and tokens come one after another.
 use mathlib.Core.Path.{_≡_, refl, sym, _∙_}
-use mathlib.Core.Bool.{Bool, true, false, not, _&&_, _||_, true≢false}
+use mathlib.Core.Bool.{false, true≢false}
 use mathlib.Core.List.{List, [], _∷_, _++_}
-use Prim.Native.Nat.{ℕ, zero, suc, _<_, _≤_}
+use Prim.Native.Nat.{ℕ, _<_, _≤_}
 use native.Mathlib.Omega.{arith}
-use lib.Dec.{leb, ltb, eqb}
-use lib.ListN.{length, getD, take, length-take}
+use lib.Dec.{leb, ltb}
+use lib.ListN.{length, take, length-take}
 use borrow.Author.Tests.{leb-true, leb-false}
 use Rattle.chars.specs.Limits.{Limits}
-use Rattle.chars.specs.Choice.{if_then_else_, within, among, ascii, same}
+use Rattle.chars.specs.Choice.{same}
 use Rattle.chars.specs.Stream.{start, mark}
 use Rattle.chars.proofs.Cases.{either}
 use Rattle.chars.proofs.Same.{shorter}
-use Rattle.tokens.specs.Tokens.{Sort, simple, quoted, curly, Tokens}
+use Rattle.tokens.specs.Tokens.{Tokens}
 use Rattle.tokens.proofs.Refused.{Chain, and-then, closing, ending, chain}
-use Rattle.reading.specs.Entity.{Entity, bare, begin-group}
-use Rattle.reading.specs.Making.{Reader, fresh, Judged, refuses, makes, within-groups, adds, group-begins, group-ends, element-ends}
-use Rattle.reading.specs.Making.{counted, array-ends, named, word, regular, command, literal, judged, judged-last}
-use Rattle.reading.specs.Making.{Room, shortage, Handled, stops, holds, fitted, handled}
-use Rattle.reading.specs.Reading.{Read, refusal, success, before, taken, textOf, stringOf, entities, readWith}
+use Rattle.reading.specs.Entity.{Entity}
+use Rattle.reading.specs.Making.{Reader, fresh, Room, Handled, stops, holds}
+use Rattle.reading.specs.Reading.{Read, refusal, success, before, taken, entities, readWith}
+use Rattle.reading.proofs.Handled.{All, nothing, also, Held, token-held, last-held}
 
 -- entities in order, from `from` on and before `to`
 abbrev pub Ordered : (from to : ℕ) → List Entity → Type 0
 Ordered from to [] = Unit
 Ordered from to (e ∷ es) = (from ≤ e .place) × (e .place < to) × Ordered (e .place) to es
 
--- entities that all stand at one place
-data All (place : ℕ) : List Entity → Type 0 where
-  nothing : All place []
-  also : (e : Entity) (es : List Entity) → e .place ≡ place → All place es → All place (e ∷ es)
-
-all-append : (place : ℕ) (es more : List Entity) → All place es → All place more → All place (es ++ more)
-all-append place es more nothing b = b
-all-append place es more (also e es′ is a) b = also e (es′ ++ more) is (all-append place es′ more a b)
-
--- they come before others that begin behind them
+-- entities at one place, and then others that begin behind it
 in-order :
     (from to place after : ℕ) (es more : List Entity) → All place es → from ≤ place → place < to → place ≤ after
     → Ordered after to more → Ordered from to (es ++ more)
@@ -43,102 +33,6 @@ in-order from to place after es [] nothing g l b o = tt
 in-order from to place after es (e ∷ more) nothing g l b o = (omega arith, o .1, o .2)
 in-order from to place after es more (also e es′ is a) g l b o =
     (omega arith, omega arith, in-order (e .place) to place after es′ more a (omega arith) l b o)
-
-module _ (place : ℕ) where
-  -- what a token is judged to be has the token's place
-  data Here : Judged → Type 0 where
-    no-more : (n : ℕ) → Here (refuses n)
-    some : (es : List Entity) (r : Reader) → All place es → Here (makes es r)
-
-  one : (e : Entity) → e .place ≡ place → All place (e ∷ [])
-  one e is = also e [] is nothing
-
-  either-way : (t : Bool) {x y : Judged} → Here x → Here y → Here (if t then x else y)
-  either-way true a b = a
-  either-way false a b = b
-
-  group-ends-here : (groups : List ℕ) → Here (group-ends groups place)
-  unfolding group-ends bare
-  group-ends-here [] = no-more 14
-  group-ends-here (zero ∷ groups) = some _ _ (one _ refl)
-  group-ends-here (suc n ∷ groups) = no-more 14
-
-  element-ends-here : (groups : List ℕ) → Here (element-ends groups place)
-  unfolding element-ends bare
-  element-ends-here [] = no-more 15
-  element-ends-here (zero ∷ groups) = no-more 15
-  element-ends-here (suc n ∷ groups) = some _ _ (also _ _ refl (one _ refl))
-
-  array-ends-here : (opened : Bool) (groups : List ℕ) → Here (array-ends opened groups place)
-  unfolding array-ends bare counted
-  array-ends-here true groups = some _ _ (one _ refl)
-  array-ends-here false [] = no-more 16
-  array-ends-here false (zero ∷ groups) = no-more 16
-  array-ends-here false (suc n ∷ groups) = some _ _ (also _ _ refl (one _ refl))
-
-  word-here : (text : List ℕ) → word place text .place ≡ place
-  unfolding word named
-  word-here text =
-      let c = getD text 0 0 in
-      either (among c (ascii "+-") || within 0x30 0x39 c) (λ t. rw t)
-      (λ t. rw t (either (eqb c 0x3F) (λ t. rw t)
-      (λ t. rw t (either (eqb c 0x40) (λ t. rw t)
-      (λ t. rw t (either (eqb c 0x3D) (λ t. rw t) (λ t. rw t (either (eqb c 0x3A) (λ t. rw t) (λ t. rw t)))))))))
-
-  regular-here : (L : Limits) (r : Reader) (text : List ℕ) → Here (regular L r place text)
-  unfolding regular group-begins adds bare
-  regular-here L r text =
-      let c = getD text 0 0 in
-      either-way (eqb c 0x25) (some _ _ (one _ refl))
-      (either-way (eqb c 0x3B) (no-more 11)
-      (either-way (eqb c 0x28) (either-way (ltb (length (r .groups)) (L .groups)) (some _ _ (one _ refl)) (no-more 17))
-      (either-way (eqb c 0x29) (group-ends-here (r .groups))
-      (either-way (eqb c 0x5B) (some _ _ nothing)
-      (either-way (eqb c 0x2C) (element-ends-here (r .groups))
-      (either-way (eqb c 0x5D) (array-ends-here (r .opened) (r .groups)) (some _ _ (one _ (word-here text)))))))))
-
-  command-here : (r : Reader) (text : List ℕ) → Here (command r place text)
-  unfolding command adds bare named
-  command-here r text =
-      let c = getD text 0 0 in
-      either-way (eqb c 0x25) (no-more 10) (either-way (eqb c 0x3B) (some _ _ (one _ refl)) (some _ _ (one _ refl)))
-
-  judged-here : (L : Limits) (sort : Sort) (r : Reader) (text string : List ℕ) → Here (judged L sort r place text string)
-  unfolding judged literal adds
-  judged-here L simple r text string = either-way (r .metacommand) (command-here r text) (regular-here L r text)
-  judged-here L quoted r text string = some _ _ (one _ refl)
-  judged-here L curly r text string = some _ _ (one _ refl)
-
-  last-here : (r : Reader) → Here (judged-last r place)
-  unfolding judged-last adds bare
-  last-here r =
-      either-way (r .metacommand) (no-more 12) (either-way (ltb 0 (length (r .groups))) (no-more 13) (some _ _ (one _ refl)))
-
-  -- and so has what is held of it
-  abbrev Held : Handled → Type 0
-  Held (stops n) = Unit
-  Held (holds es left r) = All place es
-
-  fitted-held : (room : Room) (inserted : List Entity) (j : Judged) → All place inserted → Here j → Held (fitted room inserted j)
-  unfolding fitted
-  fitted-held room inserted j a (no-more n) = tt
-  fitted-held room inserted j a (some es r b) =
-      either (eqb (shortage (room .entities) (room .text) (inserted ++ es)) 0)
-      (λ t. rw t (all-append place inserted es a b))
-      (λ t. rw t tt)
-
-  handled-held :
-      (L : Limits) (room : Room) (r : Reader) (closes : Bool) (judge : Reader → Judged) → ((r′ : Reader) → Here (judge r′))
-      → Held (handled L room r closes place judge)
-  unfolding handled bare
-  handled-held L room r closes judge f =
-      either (r .opened && not closes)
-      (λ t. rw t (either (ltb (length (r .groups)) (L .groups))
-      (λ u. rw u (either (eqb (room .entities) 0)
-      (λ z. rw z tt)
-      (λ z. rw z (fitted-held room (bare begin-group place ∷ []) _ (one _ refl) (f (within-groups (1 ∷ r .groups)))))))
-      (λ u. rw u tt)))
-      (λ t. rw t (fitted-held room [] _ nothing (f r)))
 
 module _ (draft : List ℕ) where
   -- what is read from `from` on
@@ -172,14 +66,11 @@ module _ (draft : List ℕ) where
     entities-along at room r ts (ending from number place g l a b) =
         record { ordered = tt; stands = λ z. (g, l); comes-first = λ z. tt }
     entities-along at room r ts (closing from place after g l m) =
-        taken-along from place after _ _ (handled-held place L room r false (λ r. judged-last r place) (λ r. last-here place r)) g l m
+        taken-along from place after _ _ (last-held L room r place) g l m
         (λ left r. record { ordered = tt; stands = λ z. absurd (z refl); comes-first = λ z. tt })
     entities-along at room r ts (and-then from w rest s c) =
-        taken-along from (w .place) (w .after) _ _
-        (handled-held (w .place) L room r (same (textOf draft w) (ascii "]"))
-        (λ r. judged L (w .sort) r (w .place) (textOf draft w) (stringOf draft w))
-        (λ r. judged-here (w .place) L (w .sort) r (textOf draft w) (stringOf draft w)))
-        (s .behind) (s .on) (s .there) (λ left r. entities-along (w .after) left r rest c)
+        taken-along from (w .place) (w .after) _ _ (token-held L draft room r w) (s .behind) (s .on) (s .there)
+        (λ left r. entities-along (w .after) left r rest c)
 
 -- a byte order mark lies within the draft
 start-there : (draft : List ℕ) → start draft ≤ length draft
