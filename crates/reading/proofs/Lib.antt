@@ -4,3 +4,9 @@ pub mod Filling
 pub mod Judgements
 pub mod OpenGroups
 pub mod Cutting
+pub mod Held
+pub mod Unique
+pub mod Closed
+pub mod Handled
+pub mod Places
+pub mod Through
