@@ -9,3 +9,4 @@ pub mod Grammar
 pub mod RoundTrip
 pub mod Locality
 pub mod Kept
+pub mod Refusals

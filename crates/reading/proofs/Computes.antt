@@ -4,7 +4,8 @@ use Rattle.reading.specs.Making.{within-groups, adds, group-begins, grou
 use Rattle.reading.specs.Judging.{kindOf, bares, cut, filled, lasts, madeEntities, nextElement, groupsAfter, meaning, judges, kinds-fine, written, textWritten, cutFrom, cutLength, tokenEntities}
 use Rattle.reading.specs.Stepping.{openGroups, below, judgedAs, closingAs, readerOf, roomLeft, agrees}
 use Rattle.reading.specs.Reading.{refusal, success, before, taken, textOf, stringOf, entities, readWith, answered, roomOf, reading}
+use Rattle.reading.specs.WellMade.{made, well-made}
 
 unfoldable pub computes : Unit {0}
-unfolding kindNumber bare size sizes texts rows within-groups adds group-begins group-ends element-ends counted array-ends named word regular command string-kind literal closing judged judged-last shortage fitted handled kindOf bares cut filled lasts madeEntities nextElement groupsAfter meaning judges kinds-fine written textWritten cutFrom cutLength tokenEntities openGroups below judgedAs closingAs readerOf roomLeft agrees refusal success before taken textOf stringOf entities readWith answered roomOf reading
+unfolding kindNumber bare size sizes texts rows within-groups adds group-begins group-ends element-ends counted array-ends named word regular command string-kind literal closing judged judged-last shortage fitted handled kindOf bares cut filled lasts madeEntities nextElement groupsAfter meaning judges kinds-fine written textWritten cutFrom cutLength tokenEntities openGroups below judgedAs closingAs readerOf roomLeft agrees refusal success before taken textOf stringOf entities readWith answered roomOf reading made well-made
 computes = tt

@@ -9,3 +9,10 @@ pub mod Settling
 pub mod BySort
 pub mod Deciding
 pub mod Walking
+pub mod Held
+pub mod Unique
+pub mod Closed
+pub mod Handled
+pub mod Places
+pub mod Through
+pub mod Within

@@ -3,3 +3,4 @@ pub mod Making
 pub mod Judging
 pub mod Stepping
 pub mod Reading
+pub mod WellMade

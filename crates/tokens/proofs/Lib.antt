@@ -9,3 +9,6 @@ pub mod Starts
 pub mod Copying
 pub mod OneByOne
 pub mod Lengths
+pub mod Refused
+pub mod Spans
+pub mod Agreed
