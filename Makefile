@@ -1,9 +1,11 @@
-# make show    runs the main job
+# make show    lists the drafts in examples/, or with DRAFT=FILE that draft
 # make test    all tests; the last line is 'N passed, 0 failed'
 # make vectors holds the definitions against tests/vectors
 # make install PREFIX=DIR puts the library for C, its header and its pkg-config file below DIR
 
 VECTORS = $(addprefix tests/vectors/,read.txt check.txt tail.txt step.txt limits.txt) examples/worked.txt
+
+DRAFT = $(wildcard examples/*.draft)
 
 PREFIX = /usr/local
 installed = $(DESTDIR)$(abspath $(PREFIX))
@@ -11,7 +13,7 @@ installed = $(DESTDIR)$(abspath $(PREFIX))
 .PHONY: show test vectors install setup
 
 show: setup
-	@tools/vectors --show examples/worked.txt
+	@tools/list $(DRAFT)
 
 test: setup
 	@tests/run
