@@ -17,27 +17,12 @@ use Rattle.reading.specs.Making.{Reader, fresh, closing, Judged, refuses
 use Rattle.reading.specs.Making.{Room, shortage, Handled, stops, holds, fitted, handled}
 use Rattle.reading.specs.Reading.{Read, refusal, success, before, taken, textOf, stringOf, entities, readWith}
 use Rattle.reading.proofs.Listing.{texts-length, rows-length, sizes-append}
+use Rattle.reading.proofs.Shortages.{fits}
 
 -- entities of which none is short of room
 pub record Fits (room : Room) (es : List Entity) : Type 0 where
   pub few : length es ≤ room .entities
   pub brief : sizes es ≤ room .text
-
-none-short : (n bytes : ℕ) (es : List Entity) → shortage n bytes es ≡ 0 → (length es ≤ n) × (sizes es ≤ bytes)
-unfolding shortage sizes
-none-short n bytes [] e = (omega arith, omega arith)
-none-short n bytes (x ∷ es) e =
-    by-test (eqb n 0)
-    (λ t e. absurd (omega arith))
-    (λ t e. by-test (ltb bytes (size x))
-    (λ u e. absurd (omega arith))
-    (λ u e.
-    let rest = none-short (n - 1) (bytes - size x) es e in
-    let some = eqb-false n 0 t in
-    let room = ltb-false bytes (size x) u in
-    (omega arith, omega arith))
-    e)
-    e
 
 -- what a token holds, and the room left behind it
 abbrev Within : Room → Handled → Type 0
@@ -51,7 +36,7 @@ fitted-within room inserted (makes es r) =
     let all = inserted ++ es in
     either (eqb (shortage (room .entities) (room .text) all) 0)
     (λ t.
-    let fit = none-short (room .entities) (room .text) all (eqb-true (shortage (room .entities) (room .text) all) 0 t) in
+    let fit = fits (room .entities) (room .text) all (eqb-true (shortage (room .entities) (room .text) all) 0 t) in
     rw t (omega arith, omega arith))
     (λ t. rw t tt)
 
