@@ -1,22 +1,16 @@
--- No second answer satisfies the call's contract: it says of the answer and of each buffer what it is, and that is one thing.
+-- No second answer satisfies the call's contract: it says of the answer and of each buffer what it is, and that is one thing. The lemma is about
+-- the contract of `read` as the source has it.
 use mathlib.Core.Path.{_≡_, sym, _∙_}
-use mathlib.Core.List.{List}
-use Prim.Native.Nat.{ℕ}
-use Rattle.chars.specs.Limits.{Limits}
-use Rattle.reading.specs.Reading.{Reading, reading}
-use Rattle.reading.specs.declared.Answer.{Answer}
+use contract.Lifetimes.{Lfts}
+use borrow.Fn.World.{ArgsD, ResD}
+use borrow.Fn.Kinds.{endedOf}
+use denote.Triple.Clauses.{AtExit}
+use Rattle.reading.proofs.read as read
+use Rattle.reading.proofs.read.Kinds as kinds
+use Rattle.reading.proofs.read.Reads as reads
 
-module _ (L : Limits) (draft list text : List ℕ) where
-  -- what the contract of the call says of its answer and of what the buffers hold afterwards
-  abbrev pub Says : (answer : Answer) (list′ text′ : List ℕ) → Type 0
-  Says answer list′ text′ =
-      (answer ≡ reading L draft list text .answer) × (list′ ≡ reading L draft list text .list)
-      × (text′ ≡ reading L draft list text .text)
-
+module _ (κs : Lfts 3) (given : ArgsD read.signature κs) (a b : ResD read.signature κs) (x y : AtExit (endedOf 3 kinds.ps kinds.r) κs) where
   pub unique :
-      (a b : Answer) (la lb ta tb : List ℕ) → Says a la ta → Says b lb tb → (a ≡ b) × (la ≡ lb) × (ta ≡ tb)
-  unique a b la lb ta tb x y = (x .0 ∙ sym (y .0), x .1 ∙ sym (y .1), x .2 ∙ sym (y .2))
-
-  -- the same of the whole
-  pub one : (x y : Reading) → x ≡ reading L draft list text → y ≡ reading L draft list text → x ≡ y
-  one x y p q = p ∙ sym q
+      reads.Post κs given a x → reads.Post κs given b y
+      → (a ≡ b) × (x .1 .0 .now ≡ y .1 .0 .now) × (x .1 .1 .0 .now ≡ y .1 .1 .0 .now)
+  unique p q = (p .0 ∙ sym (q .0), p .1 .0 ∙ sym (q .1 .0), p .1 .1 ∙ sym (q .1 .1))
