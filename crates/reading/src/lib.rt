@@ -45,6 +45,35 @@ pub struct Piece {
     pub number: u32,
 }
 
+// A token that is no refusal.
+fn whole(sort: u32, place: usize, after: usize, prefix: usize, from: usize, bytes: usize) -> Piece
+    ensures { λ r. ⌜ r ≡ record { sort = sort; place = place; after = after; prefix = prefix; from = from; bytes = bytes; number = 0 } ⌝ }
+{
+    Piece {
+        sort,
+        place,
+        after,
+        prefix,
+        from,
+        bytes,
+        number: 0,
+    }
+}
+
+fn refused(number: u32, place: usize) -> Piece
+    ensures { λ r. ⌜ r ≡ record { sort = 4; place = place; after = 0; prefix = 0; from = 0; bytes = 0; number = number } ⌝ }
+{
+    Piece {
+        sort: 4,
+        place,
+        after: 0,
+        prefix: 0,
+        from: 0,
+        bytes: 0,
+        number,
+    }
+}
+
 fn apart(token: Token) -> Piece
     ensures { λ r. ⌜ r ≡ pieceOf token ⌝ }
 {
@@ -53,63 +82,23 @@ fn apart(token: Token) -> Piece
             place,
             after,
             length,
-        } => Piece {
-            sort: 0,
-            place,
-            after,
-            prefix: length,
-            from: 0,
-            bytes: 0,
-            number: 0,
-        },
+        } => whole(0, place, after, length, 0, 0),
         Token::Quoted {
             place,
             after,
             prefix,
             from,
             length,
-        } => Piece {
-            sort: 1,
-            place,
-            after,
-            prefix,
-            from,
-            bytes: length,
-            number: 0,
-        },
+        } => whole(1, place, after, prefix, from, length),
         Token::Curly {
             place,
             after,
             prefix,
             from,
             length,
-        } => Piece {
-            sort: 2,
-            place,
-            after,
-            prefix,
-            from,
-            bytes: length,
-            number: 0,
-        },
-        Token::Last { place, after } => Piece {
-            sort: 3,
-            place,
-            after,
-            prefix: 0,
-            from: 0,
-            bytes: 0,
-            number: 0,
-        },
-        Token::Refused { number, place } => Piece {
-            sort: 4,
-            place,
-            after: 0,
-            prefix: 0,
-            from: 0,
-            bytes: 0,
-            number,
-        },
+        } => whole(2, place, after, prefix, from, length),
+        Token::Last { place, after } => whole(3, place, after, 0, 0, 0),
+        Token::Refused { number, place } => refused(number, place),
     }
 }
 

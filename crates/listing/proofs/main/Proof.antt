@@ -10,7 +10,6 @@ use Rattle.listing.proofs.main.Lts as lts
 use Rattle.io.proofs.read_full.Reads as read-full-reads
 use Rattle.listing.proofs.write_ending.Reads as write-ending-reads
 use Rattle.listing.proofs.write_entities.Reads as write-entities-reads
-use Rattle.reading.proofs.read.Reads as read-reads
 
 slice-aggregate-read-full : tie.Need-slice-aggregate-read-full
 slice-aggregate-read-full c = search needs

@@ -3,9 +3,6 @@ use Rattle.reading.proofs.Walking.{too-long}
 use borrow.Author.Needs.{needs}
 use Rattle.reading.proofs.read.Statement.{statement}
 use Rattle.reading.proofs.read.Tie as tie
-use Rattle.reading.proofs.read.Reads as reads
-use Rattle.reading.proofs.read.Lts as lts
-use Rattle.reading.proofs.walk.Reads as walk-reads
 
 returns : tie.Need-returns
 returns c = too-long (c .before .before .before .before .args .draft .now) (c .before .before .before .before .args .list .now) (c .before .before .before .before .args .text .now) (c .if1 .taken)

@@ -13,13 +13,6 @@ use Rattle.reading.specs.Stepping.{SoFar, ahead, pieceOf, roomLeft, read
 use Rattle.reading.proofs.Walking.{Taken, here, refused-here, halted, done-here, goes-on, at-first, later}
 use Rattle.reading.proofs.walk.Statement.{statement}
 use Rattle.reading.proofs.walk.Tie as tie
-use Rattle.reading.proofs.walk.Reads as reads
-use Rattle.reading.proofs.walk.Lts as lts
-use Rattle.chars.proofs.start.Reads as start-reads
-use Rattle.reading.proofs.apart.Reads as apart-reads
-use Rattle.reading.proofs.step.take.Reads as take-reads
-use Rattle.reading.proofs.told.Reads as told-reads
-use Rattle.tokens.proofs.token_at.Reads as token-at-reads
 
 abbrev Inv-loop : tie.InvT-loop
 Inv-loop draft list₀ text₀ groups₀ at₀ s₀ list text groups at s =

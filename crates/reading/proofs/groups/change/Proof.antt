@@ -9,8 +9,6 @@ use Rattle.reading.proofs.OpenGroups.{innermost, none-open, none-after,
 use borrow.Author.Needs.{needs}
 use Rattle.reading.proofs.groups.change.Statement.{statement}
 use Rattle.reading.proofs.groups.change.Tie as tie
-use Rattle.reading.proofs.groups.change.Reads as reads
-use Rattle.reading.proofs.groups.change.Lts as lts
 
 returns : tie.Need-returns
 unfolding groupsAfter

@@ -9,8 +9,6 @@ use Rattle.reading.proofs.OpenGroups.{innermost, none-open, pushed, pop
 use borrow.Author.Needs.{needs}
 use Rattle.reading.proofs.groups.push.Statement.{statement}
 use Rattle.reading.proofs.groups.push.Tie as tie
-use Rattle.reading.proofs.groups.push.Reads as reads
-use Rattle.reading.proofs.groups.push.Lts as lts
 
 mul-groups : tie.Need-mul-groups
 mul-groups c = search needs

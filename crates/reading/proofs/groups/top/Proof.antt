@@ -9,8 +9,6 @@ use Rattle.reading.proofs.OpenGroups.{innermost, none-open, pushed, pop
 use borrow.Author.Needs.{needs}
 use Rattle.reading.proofs.groups.top.Statement.{statement}
 use Rattle.reading.proofs.groups.top.Tie as tie
-use Rattle.reading.proofs.groups.top.Reads as reads
-use Rattle.reading.proofs.groups.top.Lts as lts
 
 returns : tie.Need-returns
 returns c = let a = c .before .args in rw (none-open (a .groups .now) (a .depth) (c .if1 .taken))

@@ -9,9 +9,6 @@ use Rattle.reading.proofs.Judgements.{no-array, whole-array}
 use borrow.Author.Needs.{needs}
 use Rattle.reading.proofs.judge.array_ends.Statement.{statement}
 use Rattle.reading.proofs.judge.array_ends.Tie as tie
-use Rattle.reading.proofs.judge.array_ends.Reads as reads
-use Rattle.reading.proofs.judge.array_ends.Lts as lts
-use Rattle.reading.proofs.judge.makes.Reads as makes-reads
 
 makes-requires : tie.Need-makes-requires
 makes-requires c κs = search needs

@@ -10,9 +10,6 @@ use lib.ListN.{length}
 use borrow.Author.Needs.{needs}
 use Rattle.reading.proofs.judge.group_begins.Statement.{statement}
 use Rattle.reading.proofs.judge.group_begins.Tie as tie
-use Rattle.reading.proofs.judge.group_begins.Reads as reads
-use Rattle.reading.proofs.judge.group_begins.Lts as lts
-use Rattle.reading.proofs.judge.makes.Reads as makes-reads
 
 makes-requires : tie.Need-makes-requires
 makes-requires c κs = search needs

@@ -9,9 +9,6 @@ use Rattle.reading.proofs.Judgements.{no-group, no-own-group, own-group
 use borrow.Author.Needs.{needs}
 use Rattle.reading.proofs.judge.group_ends.Statement.{statement}
 use Rattle.reading.proofs.judge.group_ends.Tie as tie
-use Rattle.reading.proofs.judge.group_ends.Reads as reads
-use Rattle.reading.proofs.judge.group_ends.Lts as lts
-use Rattle.reading.proofs.judge.makes.Reads as makes-reads
 
 returns : tie.Need-returns
 unfolding meaning madeEntities bares lasts cut groupsAfter kindOf kinds-fine bare within-groups counted

@@ -4,8 +4,6 @@ use native.Mathlib.Omega.{arith}
 use mathlib.Core.Bool.{or-true}
 use Rattle.reading.proofs.judge.is_number.Statement.{statement}
 use Rattle.reading.proofs.judge.is_number.Tie as tie
-use Rattle.reading.proofs.judge.is_number.Reads as reads
-use Rattle.reading.proofs.judge.is_number.Lts as lts
 
 returns : tie.Need-returns
 returns c = simp (eq-eqb (c .before .args .c) 43 (c .if1 .taken))

@@ -10,9 +10,6 @@ use Rattle.reading.specs.Judging.{meaning, madeEntities, bares, lasts, c
 use borrow.Author.Needs.{needs}
 use Rattle.reading.proofs.judge.last.Statement.{statement}
 use Rattle.reading.proofs.judge.last.Tie as tie
-use Rattle.reading.proofs.judge.last.Reads as reads
-use Rattle.reading.proofs.judge.last.Lts as lts
-use Rattle.reading.proofs.judge.makes.Reads as makes-reads
 
 returns : tie.Need-returns
 unfolding meaning madeEntities bares lasts cut groupsAfter kindOf kinds-fine bare within-groups judged-last

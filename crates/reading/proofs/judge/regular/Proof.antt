@@ -10,14 +10,6 @@ use Rattle.reading.specs.Judging.{meaning, madeEntities, bares, lasts, c
 use borrow.Author.Needs.{needs}
 use Rattle.reading.proofs.judge.regular.Statement.{statement}
 use Rattle.reading.proofs.judge.regular.Tie as tie
-use Rattle.reading.proofs.judge.regular.Reads as reads
-use Rattle.reading.proofs.judge.regular.Lts as lts
-use Rattle.reading.proofs.judge.array_ends.Reads as array-ends-reads
-use Rattle.reading.proofs.judge.element_ends.Reads as element-ends-reads
-use Rattle.reading.proofs.judge.group_begins.Reads as group-begins-reads
-use Rattle.reading.proofs.judge.group_ends.Reads as group-ends-reads
-use Rattle.reading.proofs.judge.makes.Reads as makes-reads
-use Rattle.reading.proofs.judge.word.Reads as word-reads
 
 makes-requires : tie.Need-makes-requires
 makes-requires c κs = search needs

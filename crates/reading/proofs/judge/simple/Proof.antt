@@ -10,10 +10,6 @@ use Rattle.reading.specs.Judging.{meaning, madeEntities, bares, lasts, c
 use borrow.Author.Needs.{needs}
 use Rattle.reading.proofs.judge.simple.Statement.{statement}
 use Rattle.reading.proofs.judge.simple.Tie as tie
-use Rattle.reading.proofs.judge.simple.Reads as reads
-use Rattle.reading.proofs.judge.simple.Lts as lts
-use Rattle.reading.proofs.judge.command.Reads as command-reads
-use Rattle.reading.proofs.judge.regular.Reads as regular-reads
 
 command-requires : tie.Need-command-requires
 command-requires c κs = search needs

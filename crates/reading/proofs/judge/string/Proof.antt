@@ -11,9 +11,6 @@ use Rattle.tokens.specs.Runs.{sortOf}
 use borrow.Author.Needs.{needs}
 use Rattle.reading.proofs.judge.string.Statement.{statement}
 use Rattle.reading.proofs.judge.string.Tie as tie
-use Rattle.reading.proofs.judge.string.Reads as reads
-use Rattle.reading.proofs.judge.string.Lts as lts
-use Rattle.reading.proofs.judge.makes.Reads as makes-reads
 
 makes-requires : tie.Need-makes-requires
 makes-requires c κs = search needs

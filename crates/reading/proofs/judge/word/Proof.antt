@@ -9,10 +9,6 @@ use borrow.Author.Tests.{eq-eqb, ne-eqb}
 use borrow.Author.Needs.{needs}
 use Rattle.reading.proofs.judge.word.Statement.{statement}
 use Rattle.reading.proofs.judge.word.Tie as tie
-use Rattle.reading.proofs.judge.word.Reads as reads
-use Rattle.reading.proofs.judge.word.Lts as lts
-use Rattle.reading.proofs.judge.is_number.Reads as is-number-reads
-use Rattle.reading.proofs.judge.makes.Reads as makes-reads
 
 is-number-requires : tie.Need-is-number-requires
 is-number-requires c κs = search needs

@@ -10,9 +10,6 @@ use Rattle.reading.proofs.Listing.{number-of-kind, no-bare, one-bare, w
 use borrow.Author.Needs.{needs}
 use Rattle.reading.proofs.rows.bare.Statement.{statement}
 use Rattle.reading.proofs.rows.bare.Tie as tie
-use Rattle.reading.proofs.rows.bare.Reads as reads
-use Rattle.reading.proofs.rows.bare.Lts as lts
-use Rattle.reading.proofs.rows.row.Reads as row-reads
 
 returns : tie.Need-returns
 returns c =

@@ -4,9 +4,6 @@ use Rattle.reading.proofs.Filling.{part-filled}
 use borrow.Author.Needs.{needs}
 use Rattle.reading.proofs.rows.fill.Statement.{statement}
 use Rattle.reading.proofs.rows.fill.Tie as tie
-use Rattle.reading.proofs.rows.fill.Reads as reads
-use Rattle.reading.proofs.rows.fill.Lts as lts
-use Rattle.tokens.proofs.copier.copy.Reads as copy-reads
 
 sub-copy : tie.Need-sub-copy
 sub-copy c = search needs

@@ -7,10 +7,6 @@ use Rattle.reading.proofs.Filling.{both-filled}
 use borrow.Author.Needs.{needs}
 use Rattle.reading.proofs.rows.full.Statement.{statement}
 use Rattle.reading.proofs.rows.full.Tie as tie
-use Rattle.reading.proofs.rows.full.Reads as reads
-use Rattle.reading.proofs.rows.full.Lts as lts
-use Rattle.reading.proofs.rows.fill.Reads as fill-reads
-use Rattle.reading.proofs.rows.row.Reads as row-reads
 
 mul-row : tie.Need-mul-row
 mul-row c = search needs

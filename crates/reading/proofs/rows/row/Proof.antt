@@ -5,8 +5,6 @@ use Rattle.reading.proofs.Listing.{six}
 use borrow.Author.Needs.{needs}
 use Rattle.reading.proofs.rows.row.Statement.{statement}
 use Rattle.reading.proofs.rows.row.Tie as tie
-use Rattle.reading.proofs.rows.row.Reads as reads
-use Rattle.reading.proofs.rows.row.Lts as lts
 
 mul-list : tie.Need-mul-list
 mul-list c = search needs

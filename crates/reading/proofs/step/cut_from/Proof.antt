@@ -5,8 +5,6 @@ use Rattle.reading.specs.Judging.{cutFrom, cutLength}
 use borrow.Author.Needs.{needs}
 use Rattle.reading.proofs.step.cut_from.Statement.{statement}
 use Rattle.reading.proofs.step.cut_from.Tie as tie
-use Rattle.reading.proofs.step.cut_from.Reads as reads
-use Rattle.reading.proofs.step.cut_from.Lts as lts
 
 returns : tie.Need-returns
 unfolding cutFrom

@@ -5,8 +5,6 @@ use Rattle.reading.specs.Judging.{cutFrom, cutLength}
 use borrow.Author.Needs.{needs}
 use Rattle.reading.proofs.step.cut_length.Statement.{statement}
 use Rattle.reading.proofs.step.cut_length.Tie as tie
-use Rattle.reading.proofs.step.cut_length.Reads as reads
-use Rattle.reading.proofs.step.cut_length.Lts as lts
 
 returns : tie.Need-returns
 unfolding cutLength

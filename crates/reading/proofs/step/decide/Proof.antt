@@ -7,11 +7,6 @@ use Rattle.reading.proofs.Deciding.{stopped, went}
 use borrow.Author.Needs.{needs}
 use Rattle.reading.proofs.step.decide.Statement.{statement}
 use Rattle.reading.proofs.step.decide.Tie as tie
-use Rattle.reading.proofs.step.decide.Reads as reads
-use Rattle.reading.proofs.step.decide.Lts as lts
-use Rattle.reading.proofs.groups.top.Reads as top-reads
-use Rattle.reading.proofs.step.settle.Reads as settle-reads
-use Rattle.reading.proofs.step.verdict.Reads as verdict-reads
 
 top-requires : tie.Need-top-requires
 top-requires c κs = search needs

@@ -7,10 +7,6 @@ use Rattle.reading.proofs.Deciding.{too-deep, no-room, brought, ready-w
 use borrow.Author.Needs.{needs}
 use Rattle.reading.proofs.step.insert.Statement.{statement}
 use Rattle.reading.proofs.step.insert.Tie as tie
-use Rattle.reading.proofs.step.insert.Reads as reads
-use Rattle.reading.proofs.step.insert.Lts as lts
-use Rattle.reading.proofs.groups.push.Reads as push-reads
-use Rattle.reading.proofs.step.decide.Reads as decide-reads
 
 returns : tie.Need-returns
 returns c = too-deep (c .before .before .before .before .before .args .s) (c .before .before .before .before .before .args .list .now) (c .before .before .before .before .before .args .text .now) (c .before .before .before .before .before .args .groups .now) (c .before .before .before .before .before .args .place) (c .before .before .before .before .before .args .sort) (c .before .before .before .before .before .args .c) (clean (c .before .before .before .before .before .args .prefix) (streamAt (c .before .before .before .before .before .args .draft .now) (c .before .before .before .before .before .args .place))) (clean (c .before .before .before .before .before .args .data) (streamAt (c .before .before .before .before .before .args .draft .now) (c .before .before .before .before .before .args .from))) (c .before .before .before .before .before .args .groups .now) (c .if1 .taken)

@@ -4,8 +4,6 @@ use borrow.Author.Tests.{not-false}
 use Rattle.reading.proofs.Deciding.{inserts-as}
 use Rattle.reading.proofs.step.inserts.Statement.{statement}
 use Rattle.reading.proofs.step.inserts.Tie as tie
-use Rattle.reading.proofs.step.inserts.Reads as reads
-use Rattle.reading.proofs.step.inserts.Lts as lts
 
 returns : tie.Need-returns
 returns c = λ t h. inserts-as (c .before .args .opened) (c .before .args .sort) (c .before .args .c) t h .0 (c .if1 .taken)

@@ -5,8 +5,6 @@ use borrow.Author.Tests.{eq-eqb, ne-eqb, lt-ltb, le-ltb}
 use Rattle.reading.specs.Judging.{one, madeCount, madeSize, shortOf, cutLength}
 use Rattle.reading.proofs.step.one.Statement.{statement}
 use Rattle.reading.proofs.step.one.Tie as tie
-use Rattle.reading.proofs.step.one.Reads as reads
-use Rattle.reading.proofs.step.one.Lts as lts
 
 returns : tie.Need-returns
 unfolding one

@@ -8,12 +8,6 @@ use Rattle.reading.proofs.Settling.{refused-as, roomy, allowed-as}
 use borrow.Author.Needs.{needs}
 use Rattle.reading.proofs.step.settle.Statement.{statement}
 use Rattle.reading.proofs.step.settle.Tie as tie
-use Rattle.reading.proofs.step.settle.Reads as reads
-use Rattle.reading.proofs.step.settle.Lts as lts
-use Rattle.reading.proofs.groups.change.Reads as change-reads
-use Rattle.reading.proofs.step.shortage.Reads as shortage-reads
-use Rattle.reading.proofs.step.size.Reads as size-reads
-use Rattle.reading.proofs.step.write.Reads as write-reads
 
 sub-room : tie.Need-sub-room
 sub-room c = search needs

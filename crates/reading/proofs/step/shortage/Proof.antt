@@ -8,10 +8,6 @@ use Prim.Native.Nat.{_+_}
 use borrow.Author.Needs.{needs}
 use Rattle.reading.proofs.step.shortage.Statement.{statement}
 use Rattle.reading.proofs.step.shortage.Tie as tie
-use Rattle.reading.proofs.step.shortage.Reads as reads
-use Rattle.reading.proofs.step.shortage.Lts as lts
-use Rattle.reading.proofs.step.one.Reads as one-reads
-use Rattle.reading.proofs.step.size.Reads as size-reads
 
 one-requires : tie.Need-one-requires
 one-requires c κs = search needs

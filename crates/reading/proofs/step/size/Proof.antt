@@ -8,9 +8,6 @@ use Rattle.reading.proofs.Cutting.{cut-fits}
 use borrow.Author.Needs.{needs}
 use Rattle.reading.proofs.step.size.Statement.{statement}
 use Rattle.reading.proofs.step.size.Tie as tie
-use Rattle.reading.proofs.step.size.Reads as reads
-use Rattle.reading.proofs.step.size.Lts as lts
-use Rattle.reading.proofs.step.cut_length.Reads as cut-length-reads
 
 returns : tie.Need-returns
 unfolding madeSize

@@ -9,11 +9,6 @@ use Rattle.reading.proofs.Deciding.{behind-open, by-itself, first-shown
 use borrow.Author.Needs.{needs}
 use Rattle.reading.proofs.step.take.Statement.{statement}
 use Rattle.reading.proofs.step.take.Tie as tie
-use Rattle.reading.proofs.step.take.Reads as reads
-use Rattle.reading.proofs.step.take.Lts as lts
-use Rattle.reading.proofs.step.decide.Reads as decide-reads
-use Rattle.reading.proofs.step.insert.Reads as insert-reads
-use Rattle.reading.proofs.step.inserts.Reads as inserts-reads
 
 shared-slice-read-c : tie.Need-shared-slice-read-c
 shared-slice-read-c c = search needs

@@ -3,11 +3,6 @@ use Rattle.reading.proofs.BySort.{simple-as, quoted-as, curly-as, last-
 use borrow.Author.Needs.{needs}
 use Rattle.reading.proofs.step.verdict.Statement.{statement}
 use Rattle.reading.proofs.step.verdict.Tie as tie
-use Rattle.reading.proofs.step.verdict.Reads as reads
-use Rattle.reading.proofs.step.verdict.Lts as lts
-use Rattle.reading.proofs.judge.last.Reads as last-reads
-use Rattle.reading.proofs.judge.simple.Reads as simple-reads
-use Rattle.reading.proofs.judge.string.Reads as string-reads
 
 simple-requires : tie.Need-simple-requires
 simple-requires c κs = search needs

@@ -12,12 +12,6 @@ use Rattle.reading.proofs.Cutting.{parts, so-many, so-much, one-after-a
 use borrow.Author.Needs.{needs}
 use Rattle.reading.proofs.step.write.Statement.{statement}
 use Rattle.reading.proofs.step.write.Tie as tie
-use Rattle.reading.proofs.step.write.Reads as reads
-use Rattle.reading.proofs.step.write.Lts as lts
-use Rattle.reading.proofs.rows.bare.Reads as bare-reads
-use Rattle.reading.proofs.rows.full.Reads as full-reads
-use Rattle.reading.proofs.step.cut_from.Reads as cut-from-reads
-use Rattle.reading.proofs.step.cut_length.Reads as cut-length-reads
 
 bare-requires : tie.Need-bare-requires
 bare-requires c κs =
