@@ -2,12 +2,12 @@
 -- that byte is a character by itself.
 use mathlib.Core.Path.{_≡_, refl, sym, _∙_, ap}
 use mathlib.Core.List.{List, [], _∷_, _++_, tail}
-use Prim.Native.Nat.{ℕ, zero, suc, _+_, _-_, _*_, _<_, _≤_}
+use Prim.Native.Nat.{ℕ, _+_, _-_, _*_, _≤_}
 use native.Mathlib.Omega.{arith}
 use lib.Dec.{eqb}
 use lib.ListN.{length, getD, length-append}
 use borrow.Author.Tests.{eq-eqb, ne-eqb, eqb-true, eqb-false}
-use Rattle.chars.specs.Character.{characterAt, encoded}
+use Rattle.chars.specs.Character.{encoded}
 use Rattle.chars.specs.Stream.{streamAt, clean}
 use Rattle.chars.proofs.Cases.{either}
 use Rattle.chars.proofs.Extent.{encoded-one}

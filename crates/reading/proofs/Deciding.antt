@@ -1,19 +1,18 @@
 -- What a token comes to, from its verdict: a refusal is Making's own, entities are settled, and a token behind `[` is judged with the begin group
 -- that it brings already open.
-use mathlib.Core.Path.{_≡_, refl, sym, _∙_, ap}
+use mathlib.Core.Path.{_≡_, refl, sym, ap}
 use mathlib.Core.Bool.{Bool, true, false, not, _&&_, false≢true}
-use mathlib.Core.List.{List, [], _∷_, _++_}
-use Prim.Native.Nat.{ℕ, zero, suc, _+_, _-_, _*_, _<_, _≤_, _/_}
+use mathlib.Core.List.{List, _∷_}
+use Prim.Native.Nat.{ℕ, _+_, _-_, _<_, _≤_, _/_}
 use native.Mathlib.Omega.{arith}
 use lib.Dec.{eqb}
 use lib.ListN.{length, getD}
 use borrow.Author.Tests.{eq-eqb, ne-eqb, lt-ltb, le-ltb}
-use Rattle.chars.specs.Choice.{if_then_else_}
 use Rattle.chars.specs.Limits.{limits}
 use Rattle.chars.specs.Stream.{streamAt, clean}
 use Rattle.tokens.proofs.Copying.{clean-zero}
-use Rattle.reading.specs.Entity.{Entity, bare, begin-group}
-use Rattle.reading.specs.Making.{Reader, Judged, Room, Handled, stops, holds, fitted, handled, within-groups, closing}
+use Rattle.reading.specs.Entity.{Entity}
+use Rattle.reading.specs.Making.{Reader, Judged, Handled, stops, holds, fitted, handled, within-groups, closing}
 use Rattle.reading.specs.Judging.{bares, kindOf, meaning}
 use Rattle.reading.specs.Stepping.{Contents, Ready, openGroups, below, roomLeft, readerOf, agrees, shows, sorted, judgesAs, judgedAs, closingAs, inserted}
 use Rattle.reading.specs.declared.judge.Made.{Made}
@@ -23,7 +22,6 @@ use Rattle.reading.specs.declared.step.State.{State}
 use Rattle.reading.specs.declared.step.Step.{Step}
 use Rattle.reading.specs.declared.step.Step.the-variants.{Goes, Stops}
 use Rattle.reading.proofs.OpenGroups.{so-many}
-use Rattle.reading.proofs.Listing.{one-bare}
 use Rattle.reading.proofs.Cutting.{first-byte}
 
 module _ (s : State) (list text groups : List ℕ) (place sort c : ℕ) (T S : List ℕ) where

@@ -1,18 +1,16 @@
 -- Clean bytes in the text buffer: the copier fills the front of the part that it is lent, and the part goes back into its place, so what stands
 -- before it and behind the new bytes is as it was.
-use mathlib.Core.Path.{_≡_, refl, sym, _∙_, ap}
-use mathlib.Core.Bool.{false}
-use mathlib.Core.List.{List, [], _∷_, _++_, append-nil, append-assoc}
-use Prim.Native.Nat.{ℕ, _+_, _-_, _<_, _≤_}
+use mathlib.Core.Path.{_≡_, _∙_, ap}
+use mathlib.Core.List.{List, [], _∷_, _++_, append-nil}
+use Prim.Native.Nat.{ℕ, _+_, _-_, _≤_}
 use native.Mathlib.Omega.{arith}
-use lib.Dec.{ltb}
 use lib.ListN.{length, take, drop, length-drop}
 use lib.Seq.{take-all, drop-drop, drop-length}
 use borrow.Author.Tests.{le-ltb}
 use borrow.Rule.Slice.PartMut.{putMid, postOf, post-is}
 use Rattle.chars.specs.Stream.{streamAt, clean}
 use Rattle.tokens.specs.Copy.{copiedInto}
-use Rattle.reading.specs.Entity.{Entity, texts, size, sizes}
+use Rattle.reading.specs.Entity.{texts, size, sizes}
 use Rattle.reading.specs.Judging.{filled, textWritten}
 use Rattle.reading.proofs.Listing.{twice}
 

@@ -1,18 +1,17 @@
 -- What is held fits the room. A token's entities are held only where none of them is short of room, and what they take is taken off the
 -- room before the next token; the two buffers hold as many numbers and bytes as that counts.
-use mathlib.Core.Path.{_≡_, refl}
 use mathlib.Core.Bool.{Bool, false, not, _&&_}
 use mathlib.Core.List.{List, [], _∷_, _++_}
-use Prim.Native.Nat.{ℕ, _+_, _-_, _*_, _≤_}
+use Prim.Native.Nat.{ℕ, _+_, _*_, _≤_}
 use native.Mathlib.Omega.{arith}
 use lib.Dec.{ltb, eqb}
 use lib.ListN.{length, length-append}
-use borrow.Author.Tests.{ltb-false, eqb-true, eqb-false}
+use borrow.Author.Tests.{eqb-true}
 use Rattle.chars.specs.Limits.{Limits}
 use Rattle.chars.specs.Stream.{start, streamAt}
-use Rattle.chars.proofs.Cases.{by-test, either}
+use Rattle.chars.proofs.Cases.{either}
 use Rattle.tokens.specs.Tokens.{Tokens, token, last, refused, tokens, between}
-use Rattle.reading.specs.Entity.{Entity, bare, size, sizes, texts, rows, begin-group}
+use Rattle.reading.specs.Entity.{Entity, bare, sizes, texts, rows, begin-group}
 use Rattle.reading.specs.Making.{Reader, fresh, closing, Judged, refuses, makes, judged, judged-last, within-groups}
 use Rattle.reading.specs.Making.{Room, shortage, Handled, stops, holds, fitted, handled}
 use Rattle.reading.specs.Reading.{Read, refusal, success, before, taken, textOf, stringOf, entities, readWith}

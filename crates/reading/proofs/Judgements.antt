@@ -1,12 +1,12 @@
 -- What `)`, `,` and `]` come to, by the innermost open group alone: 0 is a group of its own, and anything else the element of an array.
-use mathlib.Core.Path.{_≡_, refl, sym, _∙_, ap}
-use mathlib.Core.Bool.{Bool, true, false}
+use mathlib.Core.Path.{_≡_, refl, sym}
+use mathlib.Core.Bool.{false}
 use mathlib.Core.List.{List, [], _∷_, tail}
-use Prim.Native.Nat.{ℕ, zero, suc, _<_, _≤_}
+use Prim.Native.Nat.{ℕ, zero, suc}
 use native.Mathlib.Omega.{arith}
 use lib.ListN.{length, getD}
-use Rattle.reading.specs.Entity.{Entity, bare, begin-group, end-group}
-use Rattle.reading.specs.Making.{Judged, refuses, makes, within-groups, group-ends, element-ends, array-ends, counted}
+use Rattle.reading.specs.Entity.{bare, begin-group, end-group}
+use Rattle.reading.specs.Making.{refuses, makes, within-groups, group-ends, element-ends, array-ends, counted}
 use Rattle.reading.specs.Judging.{nextElement}
 
 pub no-group : (groups : List ℕ) (place : ℕ) → length groups ≡ 0 → group-ends groups place ≡ refuses 14

@@ -1,17 +1,16 @@
 -- Entities in the list: six numbers to each. What is written behind what stands there already, twice, is written at once, since the numbers
 -- and the text of a list of entities come one entity behind the other.
 use mathlib.Core.Path.{_≡_, refl, sym, _∙_, ap}
-use mathlib.Core.List.{List, [], _∷_, _++_, append-nil, append-assoc}
-use Prim.Native.Nat.{ℕ, zero, suc, _+_, _-_, _*_, _<_, _≤_}
+use mathlib.Core.List.{List, [], _∷_, _++_, append-assoc}
+use Prim.Native.Nat.{ℕ, _+_, _*_, _≤_}
 use native.Mathlib.Omega.{arith}
 use native.Mathlib.Numerals.{add-one, add-two, add-three, add-four, add-five}
-use mathlib.Core.Bool.{Bool, true}
 use lib.Dec.{leb, eqb}
 use lib.ListN.{length, take, drop, set, length-append, length-drop, take-append-drop}
-use lib.Seq.{sets, sets-eq, length-take-le, take-at, drop-at, drop-drop}
+use lib.Seq.{sets-eq, length-take-le, take-at, drop-at, drop-drop}
 use borrow.Author.Tests.{eqb-true, eq-eqb, ne-eqb, le-leb}
 use Rattle.tokens.proofs.Table.{holds, if-then, so}
-use Rattle.reading.specs.Entity.{Kind, Entity, kindNumber, bare, size, sizes, texts, rows}
+use Rattle.reading.specs.Entity.{Entity, kindNumber, bare, size, sizes, texts, rows}
 use Rattle.reading.specs.Judging.{kindOf, bares, written, textWritten}
 
 -- six stores in a row

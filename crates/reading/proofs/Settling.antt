@@ -1,25 +1,25 @@
 -- A token that its rules allow, against Making: what does not fit is refused by the number that counting finds, and what fits leaves the room, the
 -- groups and the buffers as Making says.
 use mathlib.Core.Path.{_≡_, refl, sym, _∙_, ap}
-use mathlib.Core.List.{List, [], _∷_, _++_, tail}
-use Prim.Native.Nat.{ℕ, zero, suc, _+_, _-_, _*_, _<_, _≤_, _/_}
+use mathlib.Core.List.{List, tail}
+use Prim.Native.Nat.{ℕ, _+_, _-_, _*_, _≤_, _/_}
 use native.Mathlib.Omega.{arith}
 use lib.Dec.{eqb}
-use lib.ListN.{length, getD}
-use borrow.Author.Tests.{eq-eqb, ne-eqb, eqb-true, eqb-false}
+use lib.ListN.{length}
+use borrow.Author.Tests.{eq-eqb, ne-eqb}
 use Rattle.chars.specs.Choice.{if_then_else_}
 use Rattle.chars.specs.Stream.{streamAt, clean}
 use Rattle.chars.proofs.Cases.{either}
 use Rattle.reading.specs.Entity.{Entity, sizes}
-use Rattle.reading.specs.Making.{Reader, Room, Handled, stops, holds, fitted, shortage}
-use Rattle.reading.specs.Judging.{bares, madeEntities, madeCount, madeSize, shortOf, tokenEntities, meaning, groupsAfter, nextElement, written, textWritten}
+use Rattle.reading.specs.Making.{Reader, Room, Handled, stops, holds, fitted}
+use Rattle.reading.specs.Judging.{bares, madeCount, madeSize, shortOf, tokenEntities, meaning, groupsAfter, written, textWritten}
 use Rattle.reading.specs.Stepping.{Contents, Ready, openGroups, below, roomLeft, readerOf, agrees}
 use Rattle.reading.specs.declared.judge.Made.{Made}
 use Rattle.reading.specs.declared.judge.Verdict.the-variants.{Makes}
 use Rattle.reading.specs.declared.step.State.{State}
 use Rattle.reading.specs.declared.step.Step.the-variants.{Goes, Stops}
 use Rattle.reading.proofs.OpenGroups.{higher, below-tail, below-next}
-use Rattle.reading.proofs.Shortages.{fits, counted, weighed, shortage-is, small-size}
+use Rattle.reading.proofs.Shortages.{fits, weighed, shortage-is, small-size}
 
 -- whatever becomes of the open groups raises their numbers by at most one
 pub below-after : (change : ℕ) (gs : List ℕ) (m : ℕ) → below gs m → below (groupsAfter change gs) (m + 1)

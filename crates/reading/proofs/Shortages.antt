@@ -1,18 +1,16 @@
 -- Of a token's entities only the last has text, so the first that does not fit is found by counting: there are too many, or that text is too long.
-use mathlib.Core.Path.{_≡_, refl, sym, _∙_, ap}
+use mathlib.Core.Path.{_≡_, sym, _∙_, ap}
 use mathlib.Core.List.{List, [], _∷_, _++_}
-use mathlib.Core.Bool.{Bool, true, false}
-use Prim.Native.Nat.{ℕ, zero, suc, _+_, _-_, _*_, _<_, _≤_}
+use Prim.Native.Nat.{ℕ, suc, _+_, _-_, _≤_}
 use native.Mathlib.Omega.{arith}
 use lib.Dec.{eqb, ltb}
 use lib.ListN.{length}
-use borrow.Author.Tests.{eq-eqb, ne-eqb, eqb-true, eqb-false, lt-ltb, le-ltb, ltb-true, ltb-false}
-use Rattle.chars.specs.Choice.{if_then_else_}
+use borrow.Author.Tests.{eqb-true, eqb-false, lt-ltb, le-ltb, ltb-true, ltb-false}
 use Rattle.chars.proofs.Cases.{either}
 use Rattle.chars.specs.Stream.{streamAt, clean}
 use Rattle.reading.specs.Entity.{Entity, bare, size, sizes}
 use Rattle.reading.specs.Making.{shortage}
-use Rattle.reading.specs.Judging.{bares, lasts, one, madeCount, madeSize, shortOf, tokenEntities, cutLength}
+use Rattle.reading.specs.Judging.{bares, lasts, one, madeCount, madeSize, shortOf, tokenEntities}
 use Rattle.reading.specs.Stepping.{Contents}
 use Rattle.reading.specs.declared.judge.Made.{Made}
 use Rattle.reading.proofs.Listing.{no-bare, one-bare}

@@ -1,28 +1,27 @@
 -- The tokens of a draft one after another: what is read so far stands in the buffers, and what is still to be read is what the definition reads from
 -- here on. One token moves some of the second to the first.
 use mathlib.Core.Path.{_≡_, refl, sym, _∙_, ap}
-use mathlib.Core.Bool.{Bool, true, false}
-use mathlib.Core.List.{List, [], _∷_, _++_, append-nil, append-assoc}
-use Prim.Native.Nat.{ℕ, zero, suc, _+_, _-_, _*_, _<_, _≤_, _/_}
+use mathlib.Core.Bool.{false}
+use mathlib.Core.List.{List, [], _++_, append-nil, append-assoc}
+use Prim.Native.Nat.{ℕ, _+_, _-_, _<_, _≤_, _/_}
 use native.Mathlib.Omega.{arith}
-use lib.Dec.{eqb, ltb}
-use lib.ListN.{length, getD, length-append}
+use lib.Dec.{eqb}
+use lib.ListN.{length, length-append}
 use borrow.Author.Tests.{eq-eqb, ne-eqb, lt-ltb, le-ltb}
 use Rattle.chars.specs.Choice.{if_then_else_}
 use Rattle.chars.specs.Limits.{limits}
 use Rattle.chars.specs.Stream.{start, streamAt, clean}
-use Rattle.tokens.specs.Tokens.{Sort, simple, quoted, curly, Whole, Tokens, token, last, refused, tokens, between, first, shown, tokenAt}
+use Rattle.tokens.specs.Tokens.{Sort, simple, quoted, curly, Whole, Tokens, token, last, tokens, between, first, shown, tokenAt}
 use Rattle.tokens.proofs.OneByOne.{OneByOne, more, final, none, Sound, one-by-one}
 use Rattle.tokens.proofs.Copying.{clean-zero}
 use Rattle.reading.specs.Entity.{Entity, sizes, texts, rows}
-use Rattle.reading.specs.Making.{Reader, Room, Handled, stops, holds, handled, closing, judged, judged-last}
+use Rattle.reading.specs.Making.{Reader, Room, Handled, stops, holds, handled, closing, judged}
 use Rattle.reading.specs.Judging.{written, textWritten}
 use Rattle.reading.specs.Reading.{Read, refusal, success, before, taken, textOf, stringOf, entities, readWith, reading, answered, roomOf}
 use Rattle.reading.specs.Stepping.{Contents, Ready, openGroups, below, roomLeft, readerOf, agrees, sorted, judgedAs, closingAs, pieceOf, SoFar, ahead}
 use Rattle.reading.specs.declared.Answer.{Answer}
 use Rattle.reading.specs.declared.Piece.{Piece}
 use Rattle.reading.specs.declared.step.State.{State}
-use Rattle.reading.specs.declared.step.Step.{Step}
 use Rattle.reading.specs.declared.step.Step.the-variants.{Goes, Stops}
 use Rattle.reading.proofs.OpenGroups.{higher}
 use Rattle.reading.proofs.Listing.{written-none, written-more, text-none, text-more, sizes-append}

@@ -1,7 +1,7 @@
 -- What the code answers about one token, and what it means in the words of Making. Nothing here says more of the format than Making does.
 use Prim.Native.Nat.{ℕ, suc, _+_, _-_, _*_, _<_, _≤_}
 use mathlib.Core.Path.{_≡_}
-use mathlib.Core.Bool.{Bool, true, false}
+use mathlib.Core.Bool.{Bool}
 use mathlib.Core.List.{List, [], _∷_, _++_, tail}
 use lib.Dec.{eqb, ltb}
 use lib.ListN.{length, getD, take, drop}
@@ -13,7 +13,7 @@ use Rattle.reading.specs.Entity.{Kind, Entity, bare, sizes, texts, rows}
 use Rattle.reading.specs.Entity.{begin-metacommand, end-metacommand, metacommand-token, metacommand-quoted, metacommand-curly}
 use Rattle.reading.specs.Entity.{begin-group, end-group, array, number, quoted-string, curly-string}
 use Rattle.reading.specs.Entity.{define-variable, define-constant, get, put, operation, end}
-use Rattle.reading.specs.Making.{Reader, Judged, refuses, makes, judged}
+use Rattle.reading.specs.Making.{Judged, refuses, makes, judged}
 use Rattle.reading.specs.declared.judge.Made.{Made}
 use Rattle.reading.specs.declared.judge.Verdict.{Verdict}
 use Rattle.reading.specs.declared.judge.Verdict.the-variants.{Refuses, Makes}

@@ -5,7 +5,7 @@ use mathlib.Core.List.{List, [], _∷_, _++_, tail}
 use lib.Dec.{ltb, eqb}
 use lib.ListN.{length, getD}
 use Rattle.chars.specs.Limits.{Limits}
-use Rattle.chars.specs.Choice.{if_then_else_, within, among, ascii, same}
+use Rattle.chars.specs.Choice.{if_then_else_, within, among, ascii}
 use Rattle.tokens.specs.Tokens.{Sort, simple, quoted, curly}
 use Rattle.reading.specs.Entity.{Kind, Entity, bare, size, sizes}
 use Rattle.reading.specs.Entity.{begin-metacommand, end-metacommand, metacommand-token, metacommand-quoted, metacommand-curly}

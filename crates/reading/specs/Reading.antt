@@ -1,15 +1,15 @@
 -- Reading: from a draft and two lent buffers to one answer and the buffers' later contents (document 01).
 use Prim.Native.Nat.{ℕ, _*_, _/_}
-use mathlib.Core.Bool.{Bool, true, false}
-use mathlib.Core.List.{List, [], _∷_, _++_}
-use lib.Dec.{ltb, eqb}
-use lib.ListN.{length, getD, drop}
+use mathlib.Core.Bool.{false}
+use mathlib.Core.List.{List, [], _++_}
+use lib.Dec.{ltb}
+use lib.ListN.{length, drop}
 use Rattle.chars.specs.Limits.{Limits}
 use Rattle.chars.specs.Choice.{if_then_else_}
 use Rattle.chars.specs.Stream.{start, streamAt, clean}
 use Rattle.tokens.specs.Tokens.{Whole, Tokens, token, last, refused, tokens, between}
 use Rattle.reading.specs.Entity.{Entity, sizes, texts, rows}
-use Rattle.reading.specs.Making.{Reader, fresh, closing, Judged, judged, judged-last, Room, Handled, stops, holds, handled}
+use Rattle.reading.specs.Making.{Reader, fresh, closing, judged, judged-last, Room, Handled, stops, holds, handled}
 use Rattle.reading.specs.declared.Answer.{Answer}
 
 -- What was read: the entities held, and then the byte after `;`, or a refusal with its place.

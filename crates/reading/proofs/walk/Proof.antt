@@ -1,16 +1,12 @@
 -- `reading::walk` meets its contract. The invariant: what reading answers is what is held so far, and behind it what it reads from here on.
 -- Assumes nothing.
-use mathlib.Core.Path.{_≡_, refl, sym, _∙_, ap}
+use mathlib.Core.Path.{_∙_, ap}
 use Prim.Native.Nat.{_-_, _≤_}
 use native.Mathlib.Omega.{arith}
 use lib.ListN.{length}
 use borrow.Author.Needs.{needs}
-use Rattle.chars.specs.Limits.{limits}
-use Rattle.chars.specs.Stream.{streamAt, clean}
-use Rattle.tokens.specs.Tokens.{tokens, between, first, tokenAt}
-use Rattle.tokens.proofs.OneByOne.{one-by-one}
-use Rattle.reading.specs.Stepping.{SoFar, ahead, pieceOf, roomLeft, readerOf}
-use Rattle.reading.proofs.Walking.{Taken, here, refused-here, halted, done-here, goes-on, at-first, later}
+use Rattle.reading.specs.Stepping.{SoFar, ahead, pieceOf}
+use Rattle.reading.proofs.Walking.{here, refused-here, halted, done-here, goes-on, at-first, later}
 use Rattle.reading.proofs.walk.Statement.{statement}
 use Rattle.reading.proofs.walk.Tie as tie
 

@@ -1,9 +1,7 @@
 -- `reading::groups::change` meets its contract: each change is the definition at its number. Assumes nothing.
-use mathlib.Core.Path.{_≡_, refl, sym, _∙_, ap}
-use Prim.Native.Nat.{_+_, _-_}
+use mathlib.Core.Path.{refl, sym, _∙_, ap}
 use native.Mathlib.Omega.{arith}
 use borrow.Author.Tests.{eq-eqb, ne-eqb}
-use lib.ListN.{length, getD}
 use Rattle.reading.specs.Judging.{groupsAfter}
 use Rattle.reading.proofs.OpenGroups.{innermost, none-open, none-after, pushed, popped, counted}
 use borrow.Author.Needs.{needs}

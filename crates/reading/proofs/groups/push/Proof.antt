@@ -1,11 +1,6 @@
 -- `reading::groups::push` meets its contract: a store right behind the open ones is one more. Assumes nothing.
-use mathlib.Core.Path.{_≡_, refl, sym, _∙_, ap}
-use Prim.Native.Nat.{_+_, _-_}
 use native.Mathlib.Omega.{arith}
-use borrow.Author.Tests.{eq-eqb, ne-eqb}
-use lib.ListN.{length, getD}
-use Rattle.reading.specs.Judging.{groupsAfter, nextElement}
-use Rattle.reading.proofs.OpenGroups.{innermost, none-open, pushed, popped, counted}
+use Rattle.reading.proofs.OpenGroups.{pushed}
 use borrow.Author.Needs.{needs}
 use Rattle.reading.proofs.groups.push.Statement.{statement}
 use Rattle.reading.proofs.groups.push.Tie as tie

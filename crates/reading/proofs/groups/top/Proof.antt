@@ -1,11 +1,6 @@
 -- `reading::groups::top` meets its contract: none is open, or the last of those that are. Assumes nothing.
-use mathlib.Core.Path.{_≡_, refl, sym, _∙_, ap}
-use Prim.Native.Nat.{_+_, _-_}
-use native.Mathlib.Omega.{arith}
-use borrow.Author.Tests.{eq-eqb, ne-eqb}
-use lib.ListN.{length, getD}
-use Rattle.reading.specs.Judging.{groupsAfter, nextElement}
-use Rattle.reading.proofs.OpenGroups.{innermost, none-open, pushed, popped, counted}
+use mathlib.Core.Path.{sym}
+use Rattle.reading.proofs.OpenGroups.{innermost, none-open}
 use borrow.Author.Needs.{needs}
 use Rattle.reading.proofs.groups.top.Statement.{statement}
 use Rattle.reading.proofs.groups.top.Tie as tie

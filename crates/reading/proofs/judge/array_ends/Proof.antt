@@ -1,9 +1,8 @@
 -- `reading::judge::array_ends` meets its contract: an array that has just begun, no element, or the last one. Assumes nothing.
-use mathlib.Core.Path.{_≡_, refl, sym, _∙_, ap}
-use mathlib.Core.List.{List}
+use mathlib.Core.Path.{sym, _∙_}
 use native.Mathlib.Omega.{arith}
 use Rattle.reading.specs.Entity.{bare}
-use Rattle.reading.specs.Making.{within-groups, counted, group-begins, array-ends, adds, named, word}
+use Rattle.reading.specs.Making.{within-groups, counted, array-ends}
 use Rattle.reading.specs.Judging.{meaning, madeEntities, bares, lasts, cut, groupsAfter, kindOf, kinds-fine}
 use Rattle.reading.proofs.Judgements.{no-array, whole-array}
 use borrow.Author.Needs.{needs}

@@ -1,12 +1,9 @@
 -- `reading::judge::command` meets its contract: `%`, `;`, or any other token. Assumes nothing.
-use mathlib.Core.Path.{_≡_, refl, sym, _∙_, ap}
-use mathlib.Core.List.{List}
 use native.Mathlib.Omega.{arith}
-use lib.ListN.{length, getD}
-use borrow.Author.Tests.{eq-eqb, ne-eqb, lt-ltb, le-ltb}
+use borrow.Author.Tests.{eq-eqb, ne-eqb}
 use Rattle.reading.specs.Entity.{bare}
-use Rattle.reading.specs.Making.{within-groups, group-begins, adds, named, regular, command, literal, string-kind, judged, judged-last}
-use Rattle.reading.specs.Judging.{meaning, madeEntities, bares, lasts, cut, groupsAfter, kindOf, judges, kinds-fine}
+use Rattle.reading.specs.Making.{within-groups, adds, named, command, judged}
+use Rattle.reading.specs.Judging.{meaning, madeEntities, bares, lasts, cut, groupsAfter, kindOf, kinds-fine}
 use borrow.Author.Needs.{needs}
 use Rattle.reading.proofs.judge.command.Statement.{statement}
 use Rattle.reading.proofs.judge.command.Tie as tie

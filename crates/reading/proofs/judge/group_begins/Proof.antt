@@ -1,9 +1,7 @@
 -- `reading::judge::group_begins` meets its contract: the limit decides. Assumes nothing.
-use mathlib.Core.Path.{_≡_, refl, sym, _∙_, ap}
-use mathlib.Core.List.{List}
 use native.Mathlib.Omega.{arith}
 use Rattle.reading.specs.Entity.{bare}
-use Rattle.reading.specs.Making.{within-groups, counted, group-begins, array-ends, adds, named, word}
+use Rattle.reading.specs.Making.{within-groups, counted, group-begins}
 use Rattle.reading.specs.Judging.{meaning, madeEntities, bares, lasts, cut, groupsAfter, kindOf, kinds-fine}
 use borrow.Author.Tests.{lt-ltb, le-ltb}
 use lib.ListN.{length}

@@ -1,7 +1,5 @@
 -- `reading::judge::is_number` meets its contract: a sign, or a digit. Assumes nothing.
 use borrow.Author.Tests.{eq-eqb, ne-eqb, le-leb, lt-leb}
-use native.Mathlib.Omega.{arith}
-use mathlib.Core.Bool.{or-true}
 use Rattle.reading.proofs.judge.is_number.Statement.{statement}
 use Rattle.reading.proofs.judge.is_number.Tie as tie
 

@@ -1,11 +1,8 @@
 -- `reading::judge::regular` meets its contract: the first byte decides, test by test as the definition has them. Assumes nothing.
-use mathlib.Core.Path.{_≡_, refl, sym, _∙_, ap}
-use mathlib.Core.List.{List}
 use native.Mathlib.Omega.{arith}
-use lib.ListN.{length, getD}
-use borrow.Author.Tests.{eq-eqb, ne-eqb, lt-ltb, le-ltb}
+use borrow.Author.Tests.{eq-eqb, ne-eqb}
 use Rattle.reading.specs.Entity.{bare}
-use Rattle.reading.specs.Making.{within-groups, group-begins, adds, named, regular, command, literal, string-kind, judged, judged-last}
+use Rattle.reading.specs.Making.{within-groups, group-begins, regular, judged}
 use Rattle.reading.specs.Judging.{meaning, madeEntities, bares, lasts, cut, groupsAfter, kindOf, judges, kinds-fine}
 use borrow.Author.Needs.{needs}
 use Rattle.reading.proofs.judge.regular.Statement.{statement}

@@ -1,12 +1,6 @@
 -- `reading::judge::simple` meets its contract: the mode decides. Assumes nothing.
-use mathlib.Core.Path.{_≡_, refl, sym, _∙_, ap}
-use mathlib.Core.List.{List}
-use native.Mathlib.Omega.{arith}
-use lib.ListN.{length, getD}
-use borrow.Author.Tests.{eq-eqb, ne-eqb, lt-ltb, le-ltb}
-use Rattle.reading.specs.Entity.{bare}
-use Rattle.reading.specs.Making.{within-groups, group-begins, adds, named, regular, command, literal, string-kind, judged, judged-last}
-use Rattle.reading.specs.Judging.{meaning, madeEntities, bares, lasts, cut, groupsAfter, kindOf, judges, kinds-fine}
+use Rattle.reading.specs.Making.{regular, command}
+use Rattle.reading.specs.Judging.{judges}
 use borrow.Author.Needs.{needs}
 use Rattle.reading.proofs.judge.simple.Statement.{statement}
 use Rattle.reading.proofs.judge.simple.Tie as tie

@@ -1,9 +1,8 @@
 -- `reading::judge::word` meets its contract: the first byte decides. Assumes nothing.
-use mathlib.Core.Path.{_≡_, refl, sym, _∙_, ap}
-use mathlib.Core.List.{List}
+use mathlib.Core.Path.{sym, _∙_}
 use native.Mathlib.Omega.{arith}
 use Rattle.reading.specs.Entity.{bare}
-use Rattle.reading.specs.Making.{within-groups, counted, group-begins, array-ends, adds, named, word}
+use Rattle.reading.specs.Making.{within-groups, counted, adds, named, word}
 use Rattle.reading.specs.Judging.{meaning, madeEntities, bares, lasts, cut, groupsAfter, kindOf, kinds-fine}
 use borrow.Author.Tests.{eq-eqb, ne-eqb}
 use borrow.Author.Needs.{needs}

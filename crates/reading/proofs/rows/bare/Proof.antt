@@ -1,11 +1,10 @@
 -- `reading::rows::bare` meets its contract: nothing for kind 0, and else six numbers of which only the kind and the place say something.
 -- Assumes nothing.
-use mathlib.Core.Path.{_≡_, refl, sym, _∙_, ap}
-use mathlib.Core.List.{[], _∷_}
+use mathlib.Core.Path.{sym, _∙_, ap}
 use native.Mathlib.Omega.{arith}
 use lib.ListN.{length}
 use Rattle.reading.specs.Entity.{bare}
-use Rattle.reading.specs.Judging.{kindOf, bares}
+use Rattle.reading.specs.Judging.{kindOf}
 use Rattle.reading.proofs.Listing.{number-of-kind, no-bare, one-bare, written-none, written-one}
 use borrow.Author.Needs.{needs}
 use Rattle.reading.proofs.rows.bare.Statement.{statement}

@@ -1,5 +1,4 @@
 -- `reading::rows::fill` meets its contract: the part that is lent comes back filled, by the copier's promise. Assumes nothing.
-use native.Mathlib.Omega.{arith}
 use Rattle.reading.proofs.Filling.{part-filled}
 use borrow.Author.Needs.{needs}
 use Rattle.reading.proofs.rows.fill.Statement.{statement}

@@ -1,6 +1,5 @@
 -- `reading::rows::full` meets its contract: its six numbers by the row, its text and then its data by the part that is lent. Assumes nothing.
-use mathlib.Core.Path.{_≡_, _∙_}
-use native.Mathlib.Omega.{arith}
+use mathlib.Core.Path.{_∙_}
 use Rattle.reading.specs.Judging.{filled}
 use Rattle.reading.proofs.Listing.{number-of-kind, written-one}
 use Rattle.reading.proofs.Filling.{both-filled}

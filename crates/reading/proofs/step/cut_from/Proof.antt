@@ -1,7 +1,6 @@
 -- `reading::step::cut_from` meets its contract: each answer is the definition at its number. Assumes nothing.
-use native.Mathlib.Omega.{arith}
 use borrow.Author.Tests.{eq-eqb, ne-eqb}
-use Rattle.reading.specs.Judging.{cutFrom, cutLength}
+use Rattle.reading.specs.Judging.{cutFrom}
 use borrow.Author.Needs.{needs}
 use Rattle.reading.proofs.step.cut_from.Statement.{statement}
 use Rattle.reading.proofs.step.cut_from.Tie as tie

@@ -1,7 +1,7 @@
 -- `reading::step::cut_length` meets its contract: each answer is the definition at its number. Assumes nothing.
 use native.Mathlib.Omega.{arith}
 use borrow.Author.Tests.{eq-eqb, ne-eqb}
-use Rattle.reading.specs.Judging.{cutFrom, cutLength}
+use Rattle.reading.specs.Judging.{cutLength}
 use borrow.Author.Needs.{needs}
 use Rattle.reading.proofs.step.cut_length.Statement.{statement}
 use Rattle.reading.proofs.step.cut_length.Tie as tie

@@ -1,6 +1,4 @@
 -- `reading::step::decide` meets its contract: the verdict is the rules' own, and what it allows is settled. Assumes nothing.
-use mathlib.Core.Path.{_≡_, refl, sym, _∙_, ap}
-use native.Mathlib.Omega.{arith}
 use Rattle.chars.specs.Stream.{streamAt, clean}
 use Rattle.reading.specs.Judging.{bares}
 use Rattle.reading.proofs.Deciding.{stopped, went}

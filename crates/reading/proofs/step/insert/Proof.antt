@@ -1,8 +1,6 @@
 -- `reading::step::insert` meets its contract: 17 and 18 for the begin group come first, and then the token is decided with it open. Assumes nothing.
-use mathlib.Core.Path.{_≡_, refl, sym, _∙_, ap}
 use native.Mathlib.Omega.{arith}
 use Rattle.chars.specs.Stream.{streamAt, clean}
-use Rattle.reading.specs.Judging.{bares}
 use Rattle.reading.proofs.Deciding.{too-deep, no-room, brought, ready-within}
 use borrow.Author.Needs.{needs}
 use Rattle.reading.proofs.step.insert.Statement.{statement}

@@ -1,5 +1,4 @@
 -- `reading::step::inserts` meets its contract: it asks in the definition's order. Assumes nothing.
-use mathlib.Core.Path.{_≡_, refl, sym, _∙_, ap}
 use borrow.Author.Tests.{not-false}
 use Rattle.reading.proofs.Deciding.{inserts-as}
 use Rattle.reading.proofs.step.inserts.Statement.{statement}

@@ -1,8 +1,6 @@
 -- `reading::step::one` meets its contract: it asks what the definition asks. Assumes nothing.
-use mathlib.Core.Path.{_≡_, refl, sym, _∙_, ap}
-use native.Mathlib.Omega.{arith}
-use borrow.Author.Tests.{eq-eqb, ne-eqb, lt-ltb, le-ltb}
-use Rattle.reading.specs.Judging.{one, madeCount, madeSize, shortOf, cutLength}
+use borrow.Author.Tests.{eq-eqb, ne-eqb}
+use Rattle.reading.specs.Judging.{one}
 use Rattle.reading.proofs.step.one.Statement.{statement}
 use Rattle.reading.proofs.step.one.Tie as tie
 

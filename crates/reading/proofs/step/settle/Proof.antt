@@ -1,5 +1,5 @@
 -- `reading::step::settle` meets its contract: what is short is what counting finds short, and what fits is written. Assumes nothing.
-use mathlib.Core.Path.{_≡_, refl, sym, _∙_, ap}
+use mathlib.Core.Path.{sym, _∙_}
 use native.Mathlib.Omega.{arith}
 use Rattle.reading.specs.Judging.{kinds-fine}
 use Rattle.reading.proofs.OpenGroups.{below-top}

@@ -1,8 +1,7 @@
 -- `reading::step::shortage` meets its contract: it counts, and then it weighs. Assumes nothing.
-use mathlib.Core.Path.{_≡_, refl, sym, _∙_, ap}
 use native.Mathlib.Omega.{arith}
-use borrow.Author.Tests.{eq-eqb, ne-eqb, lt-ltb, le-ltb}
-use Rattle.reading.specs.Judging.{one, madeCount, madeSize, shortOf, cutLength}
+use borrow.Author.Tests.{lt-ltb, le-ltb}
+use Rattle.reading.specs.Judging.{one, madeCount, madeSize, shortOf}
 use Rattle.reading.proofs.Shortages.{one-small}
 use Prim.Native.Nat.{_+_}
 use borrow.Author.Needs.{needs}

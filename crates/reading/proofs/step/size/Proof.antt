@@ -1,9 +1,9 @@
 -- `reading::step::size` meets its contract: no entity has no text, and the last has what is cut for it. Assumes nothing.
 use Prim.Native.Nat.{_+_}
-use mathlib.Core.Path.{_≡_, refl, sym, _∙_, ap}
+use mathlib.Core.Path.{ap}
 use native.Mathlib.Omega.{arith}
-use borrow.Author.Tests.{eq-eqb, ne-eqb, lt-ltb, le-ltb}
-use Rattle.reading.specs.Judging.{one, madeCount, madeSize, shortOf, cutLength}
+use borrow.Author.Tests.{eq-eqb, ne-eqb}
+use Rattle.reading.specs.Judging.{madeSize}
 use Rattle.reading.proofs.Cutting.{cut-fits}
 use borrow.Author.Needs.{needs}
 use Rattle.reading.proofs.step.size.Statement.{statement}

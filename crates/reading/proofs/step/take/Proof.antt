@@ -1,8 +1,7 @@
 -- `reading::step::take` meets its contract: a token is decided by itself, or behind the group that it brings. Assumes nothing.
-use mathlib.Core.Path.{_≡_, refl, sym, _∙_, ap}
+use mathlib.Core.Path.{sym, _∙_}
 use native.Mathlib.Omega.{arith}
 use Rattle.chars.specs.Stream.{streamAt, clean}
-use Rattle.reading.specs.Judging.{bares}
 use lib.ListN.{getD}
 use Rattle.reading.specs.Stepping.{shows}
 use Rattle.reading.proofs.Deciding.{behind-open, by-itself, first-shown}

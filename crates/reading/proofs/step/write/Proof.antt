@@ -1,13 +1,12 @@
 -- `reading::step::write` meets its contract: two entities with nothing in them and then the last, each behind what stands there already.
 -- Assumes nothing.
-use mathlib.Core.Path.{_≡_, refl, sym, _∙_, ap}
+use mathlib.Core.Path.{_≡_, sym, _∙_, ap}
 use mathlib.Core.List.{[], _∷_, _++_}
-use Prim.Native.Nat.{_+_, _≤_}
 use native.Mathlib.Omega.{arith}
 use lib.ListN.{length}
-use Rattle.reading.specs.Entity.{size, sizes}
-use Rattle.reading.specs.Judging.{bares, filled, written, textWritten, cutFrom, cutLength}
-use Rattle.reading.proofs.Listing.{written-length, written-none, text-none}
+use Rattle.reading.specs.Entity.{size}
+use Rattle.reading.specs.Judging.{bares, filled, textWritten, cutFrom, cutLength}
+use Rattle.reading.proofs.Listing.{written-none, text-none}
 use Rattle.reading.proofs.Cutting.{parts, so-many, so-much, one-after-another, bare-text, no-last, last-one, last-many, last-much, cut-long, cut-fits}
 use borrow.Author.Needs.{needs}
 use Rattle.reading.proofs.step.write.Statement.{statement}
