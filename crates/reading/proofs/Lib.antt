@@ -16,3 +16,4 @@ pub mod Handled
 pub mod Places
 pub mod Through
 pub mod Within
+pub mod Roomier
