@@ -17,3 +17,5 @@ pub mod Places
 pub mod Through
 pub mod Within
 pub mod Roomier
+pub mod TextOf
+pub mod CleanText
