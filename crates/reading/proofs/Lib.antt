@@ -19,3 +19,4 @@ pub mod Within
 pub mod Roomier
 pub mod TextOf
 pub mod CleanText
+pub mod VisibleText
