@@ -6,10 +6,10 @@ ghost use Rattle.chars.specs.Limits.{limits as base};
 ghost use Rattle.reading.specs.Stepping.{pieceOf};
 ghost use Rattle.reading.specs.Reading.{reading as readingOf};
 
-pub mod groups;
-pub mod judge;
-pub mod rows;
-pub mod step;
+mod groups;
+mod judge;
+mod rows;
+mod step;
 
 use chars::limits;
 use step::State;

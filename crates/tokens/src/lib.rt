@@ -10,7 +10,7 @@ ghost use Rattle.chars.specs.Stream.{streamAt};
 ghost use Rattle.tokens.specs.Tokens.{Opened, between, bar as barAt, word as wordAt, string as stringOf, tokens, first, shown, closed as closedBy, opens, follows, nested, down, tokenAt};
 ghost use Rattle.tokens.specs.Runs.{classOf, run as runOf, pastBlanks, pastComment, pastAll, sortOf, openedAs, refusalOf, ordinaryEnd};
 
-pub mod byte;
+mod byte;
 pub mod copier;
 
 use byte::class;
