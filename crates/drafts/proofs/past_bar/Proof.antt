@@ -1,0 +1,51 @@
+-- `drafts::past_bar` stays within the line and ends: each turn is a byte further.
+use borrow.Author.Needs.{needs}
+use Prim.Native.Nat.{_-_}
+use lib.ListN.{length}
+use Rattle.drafts.proofs.past_bar.Statement.{statement}
+use Rattle.drafts.proofs.past_bar.Tie as tie
+
+abbrev Inv-loop : tie.InvT-loop
+Inv-loop line from at₀ at = Unit {0}
+
+abbrev μ-loop : tie.MeasureT-loop
+μ-loop line from at₀ at = length line - at
+
+loop-holds : tie.Need-loop-holds Inv-loop μ-loop
+loop-holds c = search needs
+
+shared-slice-read-if1 : tie.Need-shared-slice-read-if1 Inv-loop μ-loop
+shared-slice-read-if1 c = search needs
+
+shared-slice-read-if2 : tie.Need-shared-slice-read-if2 Inv-loop μ-loop
+shared-slice-read-if2 c = search needs
+
+returns : tie.Need-returns Inv-loop μ-loop
+returns c = search needs
+
+add-at : tie.Need-add-at Inv-loop μ-loop
+add-at c = search needs
+
+loop-less : tie.Need-loop-less Inv-loop μ-loop
+loop-less c = search needs
+
+loop-again : tie.Need-loop-again Inv-loop μ-loop
+loop-again c = search needs
+
+returns-2 : tie.Need-returns-2 Inv-loop μ-loop
+returns-2 c = search needs
+
+pub past-bar-spec : {M : Type 1} → statement M
+past-bar-spec =
+    tie.close
+    (tie.spec
+    Inv-loop
+    μ-loop
+    loop-holds
+    shared-slice-read-if1
+    shared-slice-read-if2
+    returns
+    add-at
+    loop-less
+    loop-again
+    returns-2)
