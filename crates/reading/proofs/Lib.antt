@@ -10,6 +10,7 @@ pub mod BySort
 pub mod Deciding
 pub mod Walking
 pub mod Held
+pub mod Called
 pub mod Unique
 pub mod Closed
 pub mod Handled

@@ -1,22 +1,24 @@
 -- More room changes nothing but refusals for want of it, 18 and 19. What a token comes to asks the room only whether its entities fit, and
 -- what fits a room fits a larger one and leaves no less of it; every other refusal is given without a look at the room.
-use mathlib.Core.Path.{_≡_, refl, ap}
+use mathlib.Core.Path.{_≡_, refl, sym, _∙_, ap}
 use mathlib.Core.Bool.{Bool, false, not, _&&_}
 use mathlib.Core.List.{List, [], _∷_, _++_}
-use Prim.Native.Nat.{ℕ, _-_, _/_, _≤_}
+use Prim.Native.Nat.{ℕ, _-_, _*_, _/_, _≤_}
 use native.Mathlib.Omega.{arith}
 use lib.Dec.{ltb, eqb}
-use lib.ListN.{length}
+use lib.ListN.{length, take}
+use lib.Seq.{take-append-seam}
 use borrow.Author.Tests.{eq-eqb, ne-eqb, le-ltb, ltb-false, eqb-true, eqb-false}
 use Rattle.chars.specs.Limits.{Limits}
 use Rattle.chars.specs.Stream.{start, streamAt}
 use Rattle.chars.proofs.Cases.{either}
 use Rattle.tokens.specs.Tokens.{Tokens, token, last, refused, tokens, between}
-use Rattle.reading.specs.Entity.{Entity, bare, size, sizes, begin-group}
+use Rattle.reading.specs.Entity.{Entity, bare, size, sizes, texts, rows, begin-group}
 use Rattle.reading.specs.Making.{Reader, fresh, closing, Judged, refuses, makes, judged, judged-last, within-groups}
 use Rattle.reading.specs.Making.{Room, shortage, Handled, stops, holds, fitted, handled}
 use Rattle.reading.specs.Reading.{Read, refusal, before, taken, success, textOf, stringOf, entities, readWith}
 use Rattle.reading.specs.Reading.{answered, roomOf, reading}
+use Rattle.reading.proofs.Listing.{texts-length, rows-length}
 
 -- a number that tells of no want of room
 pub record Other (n : ℕ) : Type 0 where
@@ -131,12 +133,34 @@ read-roomier L draft room room′ m =
     (λ t. rw t (λ o. refl))
     (λ t. rw t (entities-grown L draft room room′ fresh (tokens L between (streamAt draft (start draft))) m))
 
--- so the call, with larger buffers, has the same answer
-pub reading-roomier :
-    (L : Limits) (draft list text list′ text′ : List ℕ) → length list / 6 ≤ length list′ / 6 → length text ≤ length text′
-    → Other (reading L draft list text .answer .number)
-    → reading L draft list′ text′ .answer ≡ reading L draft list text .answer
-unfolding reading answered roomOf
-reading-roomier L draft list text list′ text′ more longer o =
-    ap (λ r. answered list text r .answer)
-    (read-roomier L draft (roomOf list text) (roomOf list′ text′) (record { more = more; longer = longer }) o)
+-- what was read stands at the front of each buffer
+front :
+    (list text : List ℕ) (r : Read)
+    → (take (6 * length (r .entities)) (answered list text r .list) ≡ rows 0 (r .entities))
+    × (take (sizes (r .entities)) (answered list text r .text) ≡ texts (r .entities))
+unfolding answered
+front list text r =
+    let es = r .entities in
+    (rw (← rows-length 0 es) (take-append-seam (rows 0 es) _), rw (← texts-length es) (take-append-seam (texts es) _))
+
+-- so the call, with larger buffers, has the same answer, and holds the same
+module _ (L : Limits) (draft list text list′ text′ : List ℕ) (more : length list / 6 ≤ length list′ / 6) (longer : length text ≤ length text′) where
+  read-alike : Other (reading L draft list text .answer .number) → readWith L (roomOf list′ text′) draft ≡ readWith L (roomOf list text) draft
+  unfolding reading answered roomOf
+  read-alike = read-roomier L draft (roomOf list text) (roomOf list′ text′) (record { more = more; longer = longer })
+
+  pub reading-roomier :
+      Other (reading L draft list text .answer .number)
+      → (reading L draft list′ text′ .answer ≡ reading L draft list text .answer)
+      × (take (6 * reading L draft list text .answer .entities) (reading L draft list′ text′ .list)
+      ≡ take (6 * reading L draft list text .answer .entities) (reading L draft list text .list))
+      × (take (reading L draft list text .answer .text) (reading L draft list′ text′ .text)
+      ≡ take (reading L draft list text .answer .text) (reading L draft list text .text))
+  unfolding reading answered
+  reading-roomier o =
+      let r = readWith L (roomOf list text) draft in
+      rw (read-alike o) (
+        refl,
+        front list′ text′ r .0 ∙ sym (front list text r .0),
+        front list′ text′ r .1 ∙ sym (front list text r .1),
+      )
