@@ -1,6 +1,9 @@
 # make show    lists the drafts in examples/, or with DRAFT=FILE that draft
 # make test    all tests; the last line is 'N passed, 0 failed'
 # make vectors holds the definitions against tests/vectors
+# make trial   holds the library against the peer in tests/peer; TRIAL has words for it, as --short or --seed N
+# make trial-selftest shows that the trial can fail
+# make bench   measures reading, of the library and of the peer
 # make install PREFIX=DIR puts the library for C, its header and its pkg-config file below DIR
 
 VECTORS = $(addprefix tests/vectors/,read.txt check.txt tail.txt step.txt limits.txt) examples/worked.txt
@@ -10,7 +13,7 @@ DRAFT = $(wildcard examples/*.draft)
 PREFIX = /usr/local
 installed = $(DESTDIR)$(abspath $(PREFIX))
 
-.PHONY: show test vectors install setup
+.PHONY: show test vectors trial trial-selftest bench install setup
 
 show: setup
 	@tools/list $(DRAFT)
@@ -20,6 +23,15 @@ test: setup
 
 vectors: setup
 	@tools/vectors $(VECTORS)
+
+trial: setup
+	@tests/trial/run $(TRIAL)
+
+trial-selftest: setup
+	@tests/trial/run --selftest
+
+bench: setup
+	@tests/bench/run
 
 install: setup
 	rt staticlib vogieburn

@@ -1,0 +1,174 @@
+#include <stddef.h>
+#include <string.h>
+
+#include "draft.h"
+#include "parts.h"
+#include "tally.h"
+
+/* What a sequence stands between. */
+typedef struct {
+    piece before, behind;
+} surrounding;
+
+/* Every sequence of up to `most` symbols, in each of the surroundings. */
+typedef struct {
+    const piece *symbols;
+    size_t symbols_len, most;
+    const surrounding *around;
+    size_t around_len;
+    void (*read)(const draft *);
+} sequences;
+
+static uint64_t drafts;
+
+/* ---- room */
+
+/* More than any of these drafts needs. */
+enum { ENTITIES = 20, TEXT = 40 };
+
+/* One reading with ample room, and now and then some numbers over. */
+static void read_amply(const draft *d)
+{
+    begin_draft(drafts);
+    hold(d->bytes, d->len, ENTITIES * VOGIEBURN_NUMBERS + drafts % VOGIEBURN_NUMBERS, TEXT);
+    drafts++;
+}
+
+/* A reading with every room that is too small for the draft, and with the one that is not. */
+static void read_with_each_room(const draft *d)
+{
+    vogieburn_answer most;
+
+    begin_draft(drafts++);
+    most = hold(d->bytes, d->len, ENTITIES * VOGIEBURN_NUMBERS, TEXT);
+    for (size_t entities = 0; entities <= most.entities; entities++)
+        for (size_t text = 0; text <= most.text; text++)
+            hold(d->bytes, d->len, entities * VOGIEBURN_NUMBERS + (entities + text) % VOGIEBURN_NUMBERS, text);
+}
+
+/* ---- sequences */
+
+/* Each byte as a symbol of its own. */
+static void split(const char *bytes, size_t len, piece *symbols)
+{
+    for (size_t i = 0; i < len; i++)
+        symbols[i] = (piece){bytes + i, 1};
+}
+
+/* Reads the draft's sequence, and all that begin with it and have up to `left` symbols more. */
+static void read_from(const sequences *s, const surrounding *around, draft *d, size_t left)
+{
+    const size_t len = d->len;
+
+    put(d, around->behind);
+    s->read(d);
+    for (size_t i = 0; left > 0 && i < s->symbols_len; i++) {
+        d->len = len;
+        put(d, s->symbols[i]);
+        read_from(s, around, d, left - 1);
+    }
+}
+
+static void read_sequences(const char *name, const sequences *s)
+{
+    static draft d;
+
+    begin_part(name);
+    drafts = 0;
+    for (size_t i = 0; i < s->around_len; i++) {
+        d.len = 0;
+        put(&d, s->around[i].before);
+        read_from(s, &s->around[i], &d, s->most);
+    }
+}
+
+/* ---- symbols */
+
+/* What reading tells apart: the atomic characters, what else begins or ends something, a word's, two numbers' and two names'
+ * first character, the white characters, CR, nul, and two bytes that are a character only together. */
+static const char marks[] = "()[],%;\"{}|#\\a1+?= \t\n\r\0\xC3\xA9";
+
+/* A byte order mark, and two surrogates that are a character only together. */
+static const piece triples[] = {PIECE("\xEF\xBB\xBF"), PIECE("\xED\xA0\xBD"), PIECE("\xED\xB8\x80")};
+
+static void try_symbols(bool short_form)
+{
+    static piece symbols[sizeof marks - 1 + COUNT(triples)];
+    static const surrounding bare[] = {{PIECE(""), PIECE("")}, {PIECE(""), PIECE(" |;")}};
+    const sequences all = {symbols, COUNT(symbols), short_form ? 4 : 5, bare, COUNT(bare), read_amply};
+    const sequences few = {symbols, COUNT(symbols), short_form ? 3 : 4, bare + 1, 1, read_with_each_room};
+
+    split(marks, sizeof marks - 1, symbols);
+    memcpy(symbols + sizeof marks - 1, triples, sizeof triples);
+    read_sequences(short_form ? "every draft of up to 4 symbols" : "every draft of up to 5 symbols", &all);
+    read_sequences(short_form ? "up to 3 symbols, with every room" : "up to 4 symbols, with every room", &few);
+}
+
+/* Fewer symbols, and more of them in a draft: what opens and closes groups, arrays and metacommands, and what strings end by. */
+static void try_nesting(bool short_form)
+{
+    static const char of_groups[] = "()[],%;a", of_strings[] = "\"{}\\a";
+    static const surrounding bare[] = {{PIECE(""), PIECE(" |;")}};
+    static const surrounding strings[] = {{PIECE("p\""), PIECE("\" |;")}, {PIECE("{"), PIECE("} |;")}};
+    static piece groups[sizeof of_groups - 1], escapes[sizeof of_strings - 1];
+    const sequences nested = {groups, COUNT(groups), short_form ? 6 : 7, bare, COUNT(bare), read_amply};
+    const sequences escaped = {escapes, COUNT(escapes), short_form ? 6 : 8, strings, COUNT(strings), read_amply};
+
+    split(of_groups, COUNT(groups), groups);
+    split(of_strings, COUNT(escapes), escapes);
+    read_sequences(short_form ? "up to 6 marks of groups" : "up to 7 marks of groups", &nested);
+    read_sequences(short_form ? "up to 6 marks of strings" : "up to 8 marks of strings", &escaped);
+}
+
+/* ---- bytes */
+
+static void try_bytes(void)
+{
+    static const surrounding around[] = {
+        {PIECE(""), PIECE(" |;")},    {PIECE("\""), PIECE("\" |;")}, {PIECE("{"), PIECE("} |;")},
+        {PIECE("#"), PIECE("\n |;")}, {PIECE("%"), PIECE("; |;")},   {PIECE("["), PIECE("] |;")},
+    };
+    static char bytes[256];
+    static piece each[256];
+    const sequences two = {each, COUNT(each), 2, around, COUNT(around), read_amply};
+
+    for (size_t i = 0; i < sizeof bytes; i++)
+        bytes[i] = (char)(unsigned char)i;
+    split(bytes, sizeof bytes, each);
+    read_sequences("up to 2 bytes of all", &two);
+}
+
+/* ---- UTF-8 */
+
+/* The first and the last byte of each range that the table of RFC 3629, section 4, or a surrogate's second byte tells apart. */
+static const char utf8_bytes[] = "\x00\x01\x7F\x80\x8F\x90\x9F\xA0\xAF\xB0\xBF\xC0\xC1\xC2\xDF"
+                                 "\xE0\xE1\xEC\xED\xEE\xEF\xF0\xF1\xF3\xF4\xF5\xFF";
+
+/* Inside a string, inside a comment and bare; each also right behind a high surrogate, and right before a low one. */
+static void try_utf8(bool short_form)
+{
+    static const surrounding around[] = {
+        {PIECE("\""), PIECE("\" |;")},
+        {PIECE("#"), PIECE("\n |;")},
+        {PIECE(""), PIECE(" |;")},
+        {PIECE("\"\xED\xA0\x80"), PIECE("\" |;")},
+        {PIECE("#\xED\xA0\x80"), PIECE("\n |;")},
+        {PIECE("\xED\xA0\x80"), PIECE(" |;")},
+        {PIECE("\""), PIECE("\xED\xB0\x80\" |;")},
+        {PIECE("#"), PIECE("\xED\xB0\x80\n |;")},
+        {PIECE(""), PIECE("\xED\xB0\x80 |;")},
+    };
+    static piece each[sizeof utf8_bytes - 1];
+    const sequences all = {each, COUNT(each), short_form ? 3 : 4, around, COUNT(around), read_amply};
+
+    split(utf8_bytes, COUNT(each), each);
+    read_sequences(short_form ? "up to 3 bytes that UTF-8 tells apart" : "up to 4 bytes that UTF-8 tells apart", &all);
+}
+
+void try_every_draft(bool short_form)
+{
+    try_symbols(short_form);
+    try_nesting(short_form);
+    try_bytes();
+    try_utf8(short_form);
+}

@@ -1,0 +1,14 @@
+/* Drafts drawn by lot. */
+#ifndef TRIAL_GRAMMAR_H
+#define TRIAL_GRAMMAR_H
+
+#include "draft.h"
+#include "lots.h"
+
+/* A draft of all that a draft may hold, most often one that can be read to its end. */
+void make_draft(lots *l, draft *d);
+
+/* Changes, drops, puts in or cuts off a few bytes. */
+void damage_draft(lots *l, draft *d);
+
+#endif

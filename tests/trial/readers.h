@@ -1,0 +1,18 @@
+/* The two readers, as functions of one type. */
+#ifndef TRIAL_READERS_H
+#define TRIAL_READERS_H
+
+#include "peer.h"
+#include "vogieburn.h"
+
+typedef vogieburn_answer reader(const uint8_t *draft, size_t draft_len, uint32_t *list, size_t list_len, uint8_t *text,
+                                size_t text_len);
+
+/* The library as its header offers it: a macro, which has no address. */
+static inline vogieburn_answer archive_read(const uint8_t *draft, size_t draft_len, uint32_t *list, size_t list_len,
+                                            uint8_t *text, size_t text_len)
+{
+    return vogieburn_read(draft, draft_len, list, list_len, text, text_len);
+}
+
+#endif
