@@ -19,10 +19,13 @@ use Rattle.reading.specs.Making.{Reader, Room, Handled, stops, holds, ha
 use Rattle.reading.specs.Judging.{written, textWritten}
 use Rattle.reading.specs.Reading.{Read, refusal, success, before, taken, textOf, stringOf, entities, readWith, reading, answered, roomOf}
 use Rattle.reading.specs.Stepping.{Contents, Ready, openGroups, below, roomLeft, readerOf, agrees, sorted, judgedAs, closingAs, pieceOf, SoFar, ahead}
+use Rattle.reading.specs.Rounds.{Went, goesRound, behindOf, endedOf}
 use Rattle.reading.specs.declared.Answer.{Answer}
 use Rattle.reading.specs.declared.Piece.{Piece}
 use Rattle.reading.specs.declared.step.State.{State}
+use Rattle.reading.specs.declared.step.Step.{Step}
 use Rattle.reading.specs.declared.step.Step.the-variants.{Goes, Stops}
+use Rattle.reading.specs.declared.round.Round.the-variants.{On, Over}
 use Rattle.reading.proofs.OpenGroups.{higher}
 use Rattle.reading.proofs.Listing.{written-none, written-more, text-none, text-more, sizes-append}
 
@@ -144,67 +147,83 @@ abbrev pub told : (number place : ℕ) → State → (consumed : ℕ) → Answer
 told number place s consumed =
     record { number = number; place = place; entities = s .entities; text = s .text; consumed = consumed; steps = 0; cells = 0 }
 
-module _ (draft list₀ text₀ list text groups : List ℕ) (s : State) (at : ℕ) where
-  -- where nothing more is read, the buffers hold what reading says
-  pub over :
-      (x : Read) → x .entities ≡ [] → SoFar draft list₀ text₀ list text groups s at x
-      → (told (x .number) (x .place) s (x .consumed) ≡ reading limits draft list₀ text₀ .answer)
-      × (list ≡ reading limits draft list₀ text₀ .list)
-      × (text ≡ reading limits draft list₀ text₀ .text)
-  unfolding reading answered before written textWritten
-  over x e so =
-      let es = so .es in
-      let all : es ++ x .entities ≡ es = ap (λ l. es ++ l) e ∙ append-nil es in
-      let none : 0 + length es ≡ length es = omega arith in
-      let none-text : 0 + sizes es ≡ sizes es = omega arith in
-      rw (so .rest, all, so .many, so .much)
-      (refl, rw (so .list-is, none), rw (so .text-is, none-text))
+-- where nothing more is read, the buffers hold what reading says
+pub over :
+    (draft list₀ text₀ list text : List ℕ) (s : State) (es : List Entity) (number place consumed : ℕ)
+    → list ≡ written list₀ 0 0 es → text ≡ textWritten text₀ 0 es → s .entities ≡ length es → s .text ≡ sizes es
+    → readWith limits (roomOf list₀ text₀) draft
+    ≡ before es (record { number = number; place = place; consumed = consumed; entities = [] })
+    → (told number place s consumed ≡ reading limits draft list₀ text₀ .answer)
+    × (list ≡ reading limits draft list₀ text₀ .list)
+    × (text ≡ reading limits draft list₀ text₀ .text)
+unfolding reading answered before written textWritten
+over draft list₀ text₀ list text s es number place consumed list-is text-is many much rest =
+    let none : 0 + length es ≡ length es = omega arith in
+    let none-text : 0 + sizes es ≡ sizes es = omega arith in
+    rw (rest, append-nil es, many, much) (refl, rw (list-is, none), rw (text-is, none-text))
 
-  pub stays : (x y : Read) → x ≡ y → SoFar draft list₀ text₀ list text groups s at x → SoFar draft list₀ text₀ list text groups s at y
-  stays x y e so = rw (sym e) so
+-- A round: what it wrote stands behind what was written before.
+module _ (draft list₀ text₀ list text groups : List ℕ) (s : State) (at : ℕ)
+    (so : SoFar draft list₀ text₀ list text groups s at (ahead draft list text groups s at)) (t : State) (list′ text′ : List ℕ) (x : Read)
+    (w : Went draft list text groups s at t list′ text′ x) where
+  abbrev es : List Entity
+  es = so .es ++ w .es
 
-  -- a token that is refused
-  pub halts :
-      (h : Handled) (k : Room → Reader → Read) (n place : ℕ) (list′ text′ groups′ : List ℕ)
-      → agrees h (Stops n) s list text list′ text′ groups′ place
-      → (taken place h k ≡ refusal n place) × (list′ ≡ list) × (text′ ≡ text)
-  unfolding agrees taken
-  halts (stops m) k n place list′ text′ groups′ a = (ap (λ j. refusal j place) (sym (a .0)), a .1, a .2)
-  halts (holds es room r) k n place list′ text′ groups′ a = absurd a
+  first-many : s .entities ≡ 0 + length (so .es)
+  first-many = omega (arith, so .many)
 
-  -- a token that goes on
-  pub onward :
-      (h : Handled) (k : Room → Reader → Read) (place after : ℕ) (t : State) (list′ text′ groups′ : List ℕ)
-      → SoFar draft list₀ text₀ list text groups s at (taken place h k) → agrees h (Goes t) s list text list′ text′ groups′ place
-      → length list′ ≡ length list → length text′ ≡ length text → place < after
-      → SoFar draft list₀ text₀ list′ text′ groups′ t after (k (roomLeft t list′ text′) (readerOf t groups′))
-  unfolding agrees taken before roomLeft
-  onward (stops m) k place after t list′ text′ groups′ so a l u o = absurd a
-  onward (holds fs room r) k place after t list′ text′ groups′ so a l u o =
-      let es = so .es in
-      let ready = a .6 in
-      let many : s .entities ≡ 0 + length es = omega (arith, so .many) in
-      let much : s .text ≡ 0 + sizes es = omega (arith, so .much) in
-      let left : room ≡ roomLeft t list′ text′ = a .5 ∙ rw (l, u) in
+  first-much : s .text ≡ 0 + sizes (so .es)
+  first-much = omega (arith, so .much)
+
+  all-list : list′ ≡ written list₀ 0 0 es
+  all-list =
+      w .list-is
+      ∙ rw (so .list-is, first-many, first-much) (written-more list₀ 0 0 (so .es) (w .es) (omega (arith, so .ready .held, so .same-list, so .many)))
+
+  all-text : text′ ≡ textWritten text₀ 0 es
+  all-text = w .text-is ∙ rw (so .text-is, first-much) (text-more text₀ 0 (so .es) (w .es) (omega (arith, so .ready .used, so .same-text, so .much)))
+
+  all-many : t .entities ≡ length es
+  all-many = omega (arith, w .many, so .many, length-append (so .es) (w .es))
+
+  all-much : t .text ≡ sizes es
+  all-much = omega (arith, w .much, so .much, sizes-append (so .es) (w .es))
+
+  all-rest : readWith limits (roomOf list₀ text₀) draft ≡ before es x
+  all-rest = so .rest ∙ (ap (before (so .es)) (w .comes) ∙ both (so .es) (w .es) x)
+
+  pub further :
+      (groups′ : List ℕ) (on : ℕ) → length list′ ≡ length list → length text′ ≡ length text → Ready t list′ text′ groups′ on
+      → SoFar draft list₀ text₀ list′ text′ groups′ t on x
+  further groups′ on l u ready =
       record {
-        es = es ++ fs;
-        list-is = a .0 ∙ rw (so .list-is, many, much) (written-more list₀ 0 0 es fs (omega (arith, so .ready .held, so .same-list)));
-        text-is = a .1 ∙ rw (so .text-is, much) (text-more text₀ 0 es fs (omega (arith, so .ready .used, so .same-text)));
-        many = omega (arith, a .2, so .many, length-append es fs);
-        much = omega (arith, a .3, so .much, sizes-append es fs);
+        es = es;
+        list-is = all-list;
+        text-is = all-text;
+        many = all-many;
+        much = all-much;
         same-list = l ∙ so .same-list;
         same-text = u ∙ so .same-text;
-        ready =
-            record {
-              deep = ready .deep;
-              array = ready .array;
-              held = omega (arith, ready .held);
-              used = omega (arith, ready .used);
-              small = omega (arith, ready .small);
-              numbers = higher _ (place + 1 + 1) (after + 1) (omega arith) (ready .numbers);
-            };
-        rest = so .rest ∙ (both es fs (k room r) ∙ ap (before (es ++ fs)) (ap (λ q. k q r) left ∙ ap (k (roomLeft t list′ text′)) (a .4)));
+        ready = ready;
+        rest = all-rest;
       }
+
+-- a round behind which nothing more is read
+pub finished :
+    (draft list₀ text₀ list text groups : List ℕ) (s : State) (at : ℕ)
+    → SoFar draft list₀ text₀ list text groups s at (ahead draft list text groups s at) → (t : State) (list′ text′ groups′ : List ℕ) (number place after : ℕ)
+    → goesRound draft list text groups s at (Over number place t after) list′ text′ groups′
+    → (told number place t after ≡ reading limits draft list₀ text₀ .answer)
+    × (list′ ≡ reading limits draft list₀ text₀ .list)
+    × (text′ ≡ reading limits draft list₀ text₀ .text)
+unfolding goesRound
+finished draft list₀ text₀ list text groups s at so t list′ text′ groups′ number place after w =
+    over draft list₀ text₀ list′ text′ t (so .es ++ w .es) number place after
+    (all-list draft list₀ text₀ list text groups s at so t list′ text′ _ w)
+    (all-text draft list₀ text₀ list text groups s at so t list′ text′ _ w)
+    (all-many draft list₀ text₀ list text groups s at so t list′ text′ _ w)
+    (all-much draft list₀ text₀ list text groups s at so t list′ text′ _ w)
+    (all-rest draft list₀ text₀ list text groups s at so t list′ text′ _ w)
 
 -- nothing is read so far
 pub at-first :
@@ -239,27 +258,27 @@ later s list text groups at place h ready =
       numbers = higher _ (at + 1) (place + 1) (omega arith) (ready .numbers);
     }
 
--- One round: the token at `at`, as the code has it.
-module _ (draft list₀ text₀ list text groups : List ℕ) (s : State) (at : ℕ) (f : Piece) (is : f ≡ pieceOf (tokenAt limits draft at)) where
-  abbrev Held : (number place : ℕ) → State → (consumed : ℕ) → (list′ text′ : List ℕ) → Type 0
-  Held number place t consumed list′ text′ =
-      (told number place t consumed ≡ reading limits draft list₀ text₀ .answer)
-      × (list′ ≡ reading limits draft list₀ text₀ .list)
-      × (text′ ≡ reading limits draft list₀ text₀ .text)
-
+-- One token, as the code has it.
+module _ (draft list text groups : List ℕ) (s : State) (at : ℕ) (f : Piece) (is : f ≡ pieceOf (tokenAt limits draft at)) where
   pub here : (f .sort ≡ 4 → ⊥) → Taken draft at f (tokens limits between (streamAt draft at))
   unfolding tokenAt
   here some = rw is (go-on draft at _ (one-by-one limits (token-limit draft at) draft at) (rw is at some))
 
-  pub refused-here : SoFar draft list₀ text₀ list text groups s at (ahead draft list text groups s at) → f .sort ≡ 4 → Held (f .number) (f .place) s 0 list text
-  unfolding tokenAt ahead refusal
-  refused-here so e =
-      over draft list₀ text₀ list text groups s at (refusal (f .number) (f .place)) refl
-      (stays draft list₀ text₀ list text groups s at _ _
-      (rw is (ended draft at _ (one-by-one limits (token-limit draft at) draft at) (rw is at e) (roomLeft s list text) (readerOf s groups))) so)
+  -- none
+  pub refused-here :
+      f .sort ≡ 4 → goesRound draft list text groups s at (Over (f .number) (f .place) s 0) list text groups
+  unfolding goesRound tokenAt ahead refusal before sizes
+  refused-here e =
+      record {
+        es = [];
+        list-is = sym (written-none list (s .entities) (s .text));
+        text-is = sym (text-none text (s .text));
+        many = omega arith;
+        much = omega arith;
+        comes = rw is (ended draft at _ (one-by-one limits (token-limit draft at) draft at) (rw is at e) (roomLeft s list text) (readerOf s groups));
+      }
 
-  module _ (so : SoFar draft list₀ text₀ list text groups s at (ahead draft list text groups s at)) (some : f .sort ≡ 4 → ⊥)
-      (list′ text′ groups′ : List ℕ) where
+  module _ (some : f .sort ≡ 4 → ⊥) (list′ text′ groups′ : List ℕ) where
     abbrev comes : Handled
     comes =
         handled limits (roomLeft s list text) (readerOf s groups) (closingAs (f .sort) (clean (f .prefix) (streamAt draft (f .place)))) (f .place)
@@ -268,34 +287,80 @@ module _ (draft list₀ text₀ list text groups : List ℕ) (s : State) (at : �
     abbrev next : Room → Reader → Read
     next room r = if eqb (f .sort) 3 then success (f .after) else entities limits draft room r (tokens limits between (streamAt draft (f .after)))
 
-    so-taken : SoFar draft list₀ text₀ list text groups s at (taken (f .place) comes next)
+    taken-here : ahead draft list text groups s at ≡ taken (f .place) comes next
     unfolding ahead
-    so-taken = stays draft list₀ text₀ list text groups s at _ _ (here some .comes (roomLeft s list text) (readerOf s groups)) so
+    taken-here = here some .comes (roomLeft s list text) (readerOf s groups)
 
-    pub halted : (n : ℕ) → agrees comes (Stops n) s list text list′ text′ groups′ (f .place) → Held n (f .place) s 0 list′ text′
-    unfolding refusal
-    halted n a =
-        let h = halts draft list₀ text₀ list text groups s at comes next n (f .place) list′ text′ groups′ a in
-        let o = over draft list₀ text₀ list text groups s at (refusal n (f .place)) refl
-        (stays draft list₀ text₀ list text groups s at _ _ (h .0) so-taken) in
-        (o .0, h .1 ∙ o .1, h .2 ∙ o .2)
+    -- a token that is refused
+    halted :
+        (h : Handled) (n : ℕ) → ahead draft list text groups s at ≡ taken (f .place) h next
+        → agrees h (Stops n) s list text list′ text′ groups′ (f .place)
+        → Went draft list text groups s at s list′ text′ (refusal n (f .place))
+    unfolding agrees taken refusal before sizes
+    halted (stops m) n e a =
+        record {
+          es = [];
+          list-is = a .1 ∙ sym (written-none list (s .entities) (s .text));
+          text-is = a .2 ∙ sym (text-none text (s .text));
+          many = omega arith;
+          much = omega arith;
+          comes = e ∙ ap (λ j. refusal j (f .place)) (sym (a .0));
+        }
+    halted (holds es room r) n e a = absurd a
 
-    module _ (t : State) (a : agrees comes (Goes t) s list text list′ text′ groups′ (f .place)) (l : length list′ ≡ length list)
-        (u : length text′ ≡ length text) where
-      moved : SoFar draft list₀ text₀ list′ text′ groups′ t (f .after) (next (roomLeft t list′ text′) (readerOf t groups′))
-      moved =
-          onward draft list₀ text₀ list text groups s at comes next (f .place) (f .after) t list′ text′ groups′ so-taken a l u (here some .on)
+    -- a token that is held
+    moved :
+        (h : Handled) (t : State) → ahead draft list text groups s at ≡ taken (f .place) h next
+        → agrees h (Goes t) s list text list′ text′ groups′ (f .place) → length list′ ≡ length list → length text′ ≡ length text
+        → Went draft list text groups s at t list′ text′ (next (roomLeft t list′ text′) (readerOf t groups′))
+    unfolding agrees taken roomLeft
+    moved (stops m) t e a l u = absurd a
+    moved (holds fs room r) t e a l u =
+        let left : room ≡ roomLeft t list′ text′ = a .5 ∙ rw (l, u) in
+        record {
+          es = fs;
+          list-is = a .0;
+          text-is = a .1;
+          many = a .2;
+          much = a .3;
+          comes = e ∙ (ap (λ q. before fs (next q r)) left ∙ ap (λ q. before fs (next (roomLeft t list′ text′) q)) (a .4));
+        }
 
-      pub done-here : f .sort ≡ 3 → Held 0 0 t (f .after) list′ text′
-      unfolding success
-      done-here e =
-          over draft list₀ text₀ list′ text′ groups′ t (f .after) (success (f .after)) refl
-          (stays draft list₀ text₀ list′ text′ groups′ t (f .after) _ _ (rw (eq-eqb (f .sort) 3 e)) moved)
+    ready-behind :
+        (h : Handled) (t : State) → agrees h (Goes t) s list text list′ text′ groups′ (f .place) → length list′ ≡ length list
+        → length text′ ≡ length text → Ready t list′ text′ groups′ (f .after)
+    unfolding agrees
+    ready-behind (stops m) t a l u = absurd a
+    ready-behind (holds fs room r) t a l u =
+        let ready = a .6 in
+        record {
+          deep = ready .deep;
+          array = ready .array;
+          held = omega (arith, ready .held);
+          used = omega (arith, ready .used);
+          small = omega (arith, ready .small, here some .on);
+          numbers = higher _ (f .place + 1 + 1) (f .after + 1) (omega (arith, here some .on)) (ready .numbers);
+        }
 
-      pub goes-on :
-          (f .sort ≡ 3 → ⊥) → SoFar draft list₀ text₀ list′ text′ groups′ t (f .after) (ahead draft list′ text′ groups′ t (f .after))
-      unfolding ahead
-      goes-on e = stays draft list₀ text₀ list′ text′ groups′ t (f .after) _ _ (rw (ne-eqb (f .sort) 3 e)) moved
+    pub behind-here :
+        (step : Step) → agrees comes step s list text list′ text′ groups′ (f .place) → length list′ ≡ length list → length text′ ≡ length text
+        → (f .sort ≡ 3 → ⊥) → goesRound draft list text groups s at (behindOf step s (f .place) (f .after)) list′ text′ groups′
+    unfolding goesRound behindOf refusal ahead
+    behind-here (Stops n) a l u e = halted comes n taken-here a
+    behind-here (Goes t) a l u e =
+        let k = here some in (
+          rw (ne-eqb (f .sort) 3 e) at (moved comes t taken-here a l u),
+          ready-behind comes t a l u,
+          omega (arith, k .behind, k .on),
+          omega (arith, k .behind, k .on, k .there),
+        )
+
+    pub ended-here :
+        (step : Step) → agrees comes step s list text list′ text′ groups′ (f .place) → length list′ ≡ length list → length text′ ≡ length text
+        → f .sort ≡ 3 → goesRound draft list text groups s at (endedOf step s (f .place) (f .after)) list′ text′ groups′
+    unfolding goesRound endedOf refusal success
+    ended-here (Stops n) a l u e = halted comes n taken-here a
+    ended-here (Goes t) a l u e = rw (eq-eqb (f .sort) 3 e) at (moved comes t taken-here a l u)
 
 -- a draft over the limit: nothing is read
 pub too-long :

@@ -4,3 +4,4 @@ pub mod Judging
 pub mod Stepping
 pub mod Reading
 pub mod WellMade
+pub mod Rounds

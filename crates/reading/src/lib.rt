@@ -8,13 +8,14 @@ ghost use Rattle.reading.specs.Reading.{reading as readingOf};
 
 mod groups;
 mod judge;
+mod round;
 mod rows;
 mod step;
 
 use chars::limits;
+use round::Round;
+use round::go_round;
 use step::State;
-use step::Step;
-use step::take;
 use tokens::Token;
 
 // The answer of read and of check. A number that an answer has no use for is 0.
@@ -133,41 +134,21 @@ fn walk(draft: &[u8], list: &mut [u32], text: &mut [u8], groups: &mut [u32]) -> 
         text: 0,
     };
     loop {
-        let token = tokens::token_at(draft, at);
-        let p = apart(token);
-        let sort = p.sort;
-        let place = p.place;
-        let after = p.after;
-        let prefix = p.prefix;
-        let from = p.from;
-        let bytes = p.bytes;
-        if sort == 4 {
-            return told(p.number, place, s, 0);
-        }
-        let done = take(
-            draft,
-            list,
-            text,
-            groups,
-            s,
-            sort,
-            place,
-            prefix,
-            from,
-            bytes,
-        );
-        match done {
-            Step::Stops { number } => {
-                return told(number, place, s, 0);
+        let r = go_round(draft, list, text, groups, s, at);
+        match r {
+            Round::Over {
+                number,
+                place,
+                state,
+                after,
+            } => {
+                return told(number, place, state, after);
             }
-            Step::Goes { state } => {
+            Round::On { state, at: next } => {
                 s = state;
+                at = next;
             }
         }
-        if sort == 3 {
-            return told(0, 0, s, after);
-        }
-        at = after;
     }
 }
 

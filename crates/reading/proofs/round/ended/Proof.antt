@@ -1,0 +1,22 @@
+-- `reading::round::ended` meets its contract: a step has two cases. Assumes nothing.
+use borrow.Author.Needs.{needs}
+use Rattle.reading.specs.Rounds.{endedOf}
+use Rattle.reading.proofs.round.ended.Statement.{statement}
+use Rattle.reading.proofs.round.ended.Tie as tie
+
+enum-known-step : tie.Need-enum-known-step
+enum-known-step c = search needs
+
+enum-known-step-2 : tie.Need-enum-known-step-2
+enum-known-step-2 c = search needs
+
+returns : tie.Need-returns
+unfolding endedOf
+returns c = rw (c .before .step .given .1)
+
+returns-2 : tie.Need-returns-2
+unfolding endedOf
+returns-2 c = rw (c .before .step2 .given .1)
+
+pub ended-spec : {M : Type 1} → statement M
+ended-spec = tie.close (tie.spec enum-known-step enum-known-step-2 returns returns-2)

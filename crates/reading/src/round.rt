@@ -1,0 +1,117 @@
+// One round of reading: what stands at a place is taken, and reading goes on behind it or is over.
+ghost use mathlib.Core.Path.{_≡_};
+ghost use Prim.Native.Nat.{_≤_};
+ghost use lib.ListN.{length};
+ghost use Rattle.reading.specs.Stepping.{Ready};
+ghost use Rattle.reading.specs.Rounds.{goesRound, behindOf, endedOf};
+use crate::apart;
+use crate::step::State;
+use crate::step::Step;
+use crate::step::take;
+
+// What a round comes to.
+pub enum Round {
+    // Reading goes on at a place.
+    On {
+        state: State,
+        at: usize,
+    },
+    // Reading is over: 0 and the byte after `;`, or a refusal and its place.
+    Over {
+        number: u32,
+        place: usize,
+        state: State,
+        after: usize,
+    },
+}
+
+// A round whose token is not the last: behind it, or over at its place.
+fn behind(step: Step, s: State, place: usize, after: usize) -> Round
+    ensures { λ r. ⌜ r ≡ behindOf step s place after ⌝ }
+{
+    match step {
+        Step::Stops { number } => Round::Over {
+            number,
+            place,
+            state: s,
+            after: 0,
+        },
+        Step::Goes { state } => Round::On { state, at: after },
+    }
+}
+
+// A round whose token is the last.
+fn ended(step: Step, s: State, place: usize, after: usize) -> Round
+    ensures { λ r. ⌜ r ≡ endedOf step s place after ⌝ }
+{
+    match step {
+        Step::Stops { number } => Round::Over {
+            number,
+            place,
+            state: s,
+            after: 0,
+        },
+        Step::Goes { state } => Round::Over {
+            number: 0,
+            place: 0,
+            state,
+            after,
+        },
+    }
+}
+
+// Any token.
+fn any(
+    draft: &[u8],
+    list: &mut [u32],
+    text: &mut [u8],
+    groups: &mut [u32],
+    s: State,
+    at: usize,
+) -> Round
+    requires { ⌜ (length (now draft) ≤ 16384) × Ready s (now list) (now text) (now groups) at ⌝ }
+    ensures { λ r. ⌜ goesRound (now (draft .entry)) (now (list .entry)) (now (text .entry)) (now (groups .entry)) s at r (now (list .exit)) (now (text .exit)) (now (groups .exit)) ⌝ }
+{
+    let p = apart(tokens::token_at(draft, at));
+    let sort = p.sort;
+    let place = p.place;
+    let after = p.after;
+    if sort == 4 {
+        return Round::Over {
+            number: p.number,
+            place,
+            state: s,
+            after: 0,
+        };
+    }
+    let done = take(
+        draft,
+        list,
+        text,
+        groups,
+        s,
+        sort,
+        place,
+        p.prefix,
+        p.from,
+        p.bytes,
+    );
+    if sort == 3 {
+        return ended(done, s, place, after);
+    }
+    behind(done, s, place, after)
+}
+
+pub fn go_round(
+    draft: &[u8],
+    list: &mut [u32],
+    text: &mut [u8],
+    groups: &mut [u32],
+    s: State,
+    at: usize,
+) -> Round
+    requires { ⌜ (length (now draft) ≤ 16384) × Ready s (now list) (now text) (now groups) at ⌝ }
+    ensures { λ r. ⌜ goesRound (now (draft .entry)) (now (list .entry)) (now (text .entry)) (now (groups .entry)) s at r (now (list .exit)) (now (text .exit)) (now (groups .exit)) ⌝ }
+{
+    any(draft, list, text, groups, s, at)
+}
