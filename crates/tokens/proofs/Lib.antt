@@ -1,5 +1,6 @@
 pub mod Computes
 pub mod Table
+pub mod Arms
 pub mod Passing
 pub mod Classes
 pub mod Skipping

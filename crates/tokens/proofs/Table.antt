@@ -1,32 +1,11 @@
--- A rule of a table, and a fact about every byte: antt computes one test over all of them, and these laws turn the test into the rule at
--- each place.
-use mathlib.Core.Path.{_≡_, refl, sym, _∙_, ap}
+-- A fact about every byte: antt computes one test over all of them, and these laws turn the test into the fact at each.
+use mathlib.Core.Path.{_≡_, _∙_, ap}
 use mathlib.Core.Bool.{Bool, true, false, not, _&&_, _||_, false≢true}
-use mathlib.Core.List.{List, [], _∷_}
-use Prim.Native.Nat.{ℕ, zero, suc, _+_, _<_}
+use Prim.Native.Nat.{ℕ, zero, suc, _<_}
 use native.Mathlib.Omega.{arith}
 use lib.Dec.{eqb}
-use lib.ListN.{length, getD}
 use borrow.Author.Tests.{eqb-true, eqb-false}
 use Rattle.chars.proofs.Cases.{both, either}
-
--- each entry is what `f` says of its place, counted from `i`
-abbrev pub each : (ℕ → ℕ) → ℕ → List ℕ → Bool
-each f i [] = true
-each f i (x ∷ xs) = eqb x (f i) && each f (suc i) xs
-
-from :
-    (f : ℕ → ℕ) (i : ℕ) (xs : List ℕ) → each f i xs ≡ true → (k : ℕ) → k < length xs → getD xs k 0 ≡ f (i + k)
-from f i [] t k h = absurd (omega arith)
-from f i (x ∷ xs) t zero h =
-    let none : i + 0 ≡ i = omega arith in
-    eqb-true x (f i) (both (eqb x (f i)) (each f (suc i) xs) t .0) ∙ sym (ap f none)
-from f i (x ∷ xs) t (suc k) h =
-    let same : suc i + k ≡ i + suc k = omega arith in
-    from f (suc i) xs (both (eqb x (f i)) (each f (suc i) xs) t .1) k (omega arith) ∙ ap f same
-
-pub entry : (f : ℕ → ℕ) (xs : List ℕ) → each f 0 xs ≡ true → (k : ℕ) → k < length xs → getD xs k 0 ≡ f k
-entry f xs t k h = let same : 0 + k ≡ k = omega arith in from f 0 xs t k h ∙ ap f same
 
 -- the test passes at every number below `n`
 abbrev pub below : (ℕ → Bool) → ℕ → Bool
@@ -48,3 +27,8 @@ if-then s t = not s || t
 pub so : (s t : Bool) → if-then s t ≡ true → s ≡ true → t ≡ true
 so true t e p = e
 so false t e p = absurd (false≢true p)
+
+-- a function has one value at every byte that passes a test
+pub constant :
+    (f : ℕ → ℕ) (v : ℕ) (s : ℕ → Bool) → below (λ k. if-then (s k) (eqb v (f k))) 256 ≡ true → (b : ℕ) → b < 256 → s b ≡ true → v ≡ f b
+constant f v s t b h p = eqb-true v (f b) (so (s b) (eqb v (f b)) (holds (λ k. if-then (s k) (eqb v (f k))) 256 t b h) p)
