@@ -6,6 +6,7 @@ pub mod OpenGroups
 pub mod Cutting
 pub mod Shortages
 pub mod Settling
+pub mod Textless
 pub mod BySort
 pub mod Deciding
 pub mod Walking

@@ -100,6 +100,11 @@ unfoldable pub kinds-fine : Verdict → (depth : ℕ) → Type 0
 kinds-fine (Refuses n) depth = Unit {0}
 kinds-fine (Makes m) depth = (m .first ≤ 17) × (m .last ≤ 17) × (m .groups ≡ 1 → depth < 64)
 
+-- the last of its entities is there, and has no text
+unfoldable pub textless : Verdict → Type 0
+textless (Refuses n) = Unit {0}
+textless (Makes m) = (m .text ≡ 0) × (m .last ≡ 0 → ⊥)
+
 -- the list with entities written behind the first `k`, whose text begins at `t`, and past them as before
 unfoldable pub written : (before : List ℕ) → (k t : ℕ) → List Entity → List ℕ
 written before k t es = take (6 * k) before ++ (rows t es ++ drop (6 * (k + length es)) before)

@@ -1,7 +1,9 @@
 -- What one round of reading does to what is held and to what is still to be read. Nothing here says more of the format than Reading does.
 use Prim.Native.Nat.{ℕ, _+_, _<_}
 use mathlib.Core.Path.{_≡_}
+use mathlib.Core.Bool.{Bool, _||_}
 use mathlib.Core.List.{List, []}
+use lib.Dec.{eqb}
 use lib.ListN.{length}
 use Rattle.reading.specs.Entity.{Entity, sizes}
 use Rattle.reading.specs.Judging.{written, textWritten}
@@ -12,6 +14,10 @@ use Rattle.reading.specs.declared.step.Step.{Step}
 use Rattle.reading.specs.declared.step.Step.the-variants.{Goes, Stops}
 use Rattle.reading.specs.declared.round.Round.{Round}
 use Rattle.reading.specs.declared.round.Round.the-variants.{On, Over}
+
+-- `(`, `)`, `,` and `]`
+unfoldable pub isAtom : (b : ℕ) → Bool
+isAtom b = eqb b 0x28 || (eqb b 0x29 || (eqb b 0x2C || eqb b 0x5D))
 
 -- a step behind which reading goes on
 unfoldable pub behindOf : Step → State → (place after : ℕ) → Round

@@ -69,6 +69,14 @@ pub record Ready (s : State) (list text groups : List ℕ) (at : ℕ) : Type 0 w
   pub small : s .text ≤ 8192 * at
   pub numbers : below (openGroups groups (s .depth)) (at + 1)
 
+-- the same, but for the text buffer
+pub record Steady (s : State) (list groups : List ℕ) (at : ℕ) : Type 0 where
+  pub deep : s .depth ≤ 64
+  pub array : length groups ≡ 64
+  pub held : 6 * s .entities ≤ length list
+  pub small : s .text ≤ 8192 * at
+  pub numbers : below (openGroups groups (s .depth)) (at + 1)
+
 -- What one token did, against what Making says of it: the same refusal and nothing written, or the same entities written, the same room left and
 -- the same left open.
 unfoldable pub agrees :

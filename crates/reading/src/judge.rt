@@ -9,7 +9,7 @@ ghost use Rattle.chars.specs.Limits.{limits as base};
 ghost use Rattle.tokens.specs.Tokens.{simple as simpleSort};
 ghost use Rattle.tokens.specs.Runs.{sortOf};
 ghost use Rattle.reading.specs.Making.{judged, judged-last, within-groups, group-begins, group-ends, element-ends, array-ends, adds, word as wordOf};
-ghost use Rattle.reading.specs.Judging.{meaning, judges, kinds-fine};
+ghost use Rattle.reading.specs.Judging.{meaning, judges, kinds-fine, textless};
 use chars::limits;
 
 // The entities of a token, and what is open behind it.
@@ -57,8 +57,8 @@ fn makes(
 }
 
 // `(`: 17 over the limit.
-fn group_begins(depth: usize) -> Verdict
-    ensures { λ r. ⌜ ((place : ℕ) (text groups : List ℕ) → length groups ≡ depth → meaning r place text [] groups ≡ group-begins base (within-groups groups) place) × kinds-fine r depth ⌝ }
+pub fn group_begins(depth: usize) -> Verdict
+    ensures { λ r. ⌜ ((place : ℕ) (text groups : List ℕ) → length groups ≡ depth → meaning r place text [] groups ≡ group-begins base (within-groups groups) place) × kinds-fine r depth × textless r ⌝ }
 {
     if depth < limits::GROUPS {
         return makes(0, 6, 0, 0, 1, false, false);
@@ -67,8 +67,8 @@ fn group_begins(depth: usize) -> Verdict
 }
 
 // `)`: 14 where the innermost open group is none of its own.
-fn group_ends(depth: usize, top: u32) -> Verdict
-    ensures { λ r. ⌜ ((place : ℕ) (text groups : List ℕ) → length groups ≡ depth → getD groups 0 0 ≡ top → meaning r place text [] groups ≡ group-ends groups place) × kinds-fine r depth ⌝ }
+pub fn group_ends(depth: usize, top: u32) -> Verdict
+    ensures { λ r. ⌜ ((place : ℕ) (text groups : List ℕ) → length groups ≡ depth → getD groups 0 0 ≡ top → meaning r place text [] groups ≡ group-ends groups place) × kinds-fine r depth × textless r ⌝ }
 {
     if depth == 0 {
         return Verdict::Refuses { number: 14 };
@@ -80,8 +80,8 @@ fn group_ends(depth: usize, top: u32) -> Verdict
 }
 
 // `,`: 15 where the innermost open group is no element.
-fn element_ends(top: u32) -> Verdict
-    ensures { λ r. ⌜ ((place : ℕ) (text groups : List ℕ) → getD groups 0 0 ≡ top → meaning r place text [] groups ≡ element-ends groups place) × ((depth : ℕ) → kinds-fine r depth) ⌝ }
+pub fn element_ends(top: u32) -> Verdict
+    ensures { λ r. ⌜ ((place : ℕ) (text groups : List ℕ) → getD groups 0 0 ≡ top → meaning r place text [] groups ≡ element-ends groups place) × ((depth : ℕ) → kinds-fine r depth) × textless r ⌝ }
 {
     if top == 0 {
         return Verdict::Refuses { number: 15 };
@@ -90,8 +90,8 @@ fn element_ends(top: u32) -> Verdict
 }
 
 // `]`: 16 where the innermost open group is no element, unless the array has just begun.
-fn array_ends(opened: bool, top: u32) -> Verdict
-    ensures { λ r. ⌜ ((place : ℕ) (text groups : List ℕ) → getD groups 0 0 ≡ top → meaning r place text [] groups ≡ array-ends opened groups place) × ((depth : ℕ) → kinds-fine r depth) ⌝ }
+pub fn array_ends(opened: bool, top: u32) -> Verdict
+    ensures { λ r. ⌜ ((place : ℕ) (text groups : List ℕ) → getD groups 0 0 ≡ top → meaning r place text [] groups ≡ array-ends opened groups place) × ((depth : ℕ) → kinds-fine r depth) × textless r ⌝ }
 {
     if opened {
         return makes(0, 8, 0, 0, 0, false, false);

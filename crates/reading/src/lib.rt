@@ -6,6 +6,7 @@ ghost use Rattle.chars.specs.Limits.{limits as base};
 ghost use Rattle.reading.specs.Stepping.{pieceOf};
 ghost use Rattle.reading.specs.Reading.{reading as readingOf};
 
+mod atoms;
 mod groups;
 mod judge;
 mod round;

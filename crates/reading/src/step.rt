@@ -68,7 +68,7 @@ fn cut_length(how: u32, prefix: usize) -> usize
 }
 
 // How many entities a kind stands for: none where it is 0.
-fn one(kind: u32) -> usize
+pub fn one(kind: u32) -> usize
     ensures { λ r. ⌜ r ≡ oneOf kind ⌝ }
 {
     if kind == 0 {
