@@ -10,6 +10,7 @@ pub mod Textless
 pub mod BySort
 pub mod Deciding
 pub mod Walking
+pub mod Quick
 pub mod Held
 pub mod Called
 pub mod Unique

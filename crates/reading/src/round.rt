@@ -1,10 +1,13 @@
 // One round of reading: what stands at a place is taken, and reading goes on behind it or is over.
 ghost use mathlib.Core.Path.{_≡_};
+ghost use mathlib.Core.Bool.{not, _&&_};
 ghost use Prim.Native.Nat.{_≤_};
 ghost use lib.ListN.{length};
 ghost use Rattle.reading.specs.Stepping.{Ready};
 ghost use Rattle.reading.specs.Rounds.{goesRound, behindOf, endedOf};
 use crate::apart;
+use crate::atoms::atom;
+use crate::atoms::is_atom;
 use crate::step::State;
 use crate::step::Step;
 use crate::step::take;
@@ -23,6 +26,18 @@ pub enum Round {
         state: State,
         after: usize,
     },
+}
+
+// Whether neither a metacommand is open nor an array has just begun.
+fn regular(s: State) -> bool
+    ensures { λ r. ⌜ r ≡ (not (s .metacommand) && not (s .opened)) ⌝ }
+{
+    let metacommand = s.metacommand;
+    let opened = s.opened;
+    if metacommand {
+        return false;
+    }
+    !opened
 }
 
 // A round whose token is not the last: behind it, or over at its place.
@@ -102,6 +117,7 @@ fn any(
     behind(done, s, place, after)
 }
 
+// The next round. A space, and the bytes of groups and arrays, are taken as they stand.
 pub fn go_round(
     draft: &[u8],
     list: &mut [u32],
@@ -113,5 +129,20 @@ pub fn go_round(
     requires { ⌜ (length (now draft) ≤ 16384) × Ready s (now list) (now text) (now groups) at ⌝ }
     ensures { λ r. ⌜ goesRound (now (draft .entry)) (now (list .entry)) (now (text .entry)) (now (groups .entry)) s at r (now (list .exit)) (now (text .exit)) (now (groups .exit)) ⌝ }
 {
+    if at < draft.len() {
+        let b = draft[at];
+        if b == b' ' {
+            return Round::On {
+                state: s,
+                at: at + 1,
+            };
+        }
+        if regular(s) {
+            if is_atom(b) {
+                let step = atom(list, groups, s, b, at);
+                return behind(step, s, at, at + 1);
+            }
+        }
+    }
     any(draft, list, text, groups, s, at)
 }

@@ -8,7 +8,6 @@ use Rattle.reading.proofs.Textless.{bare-count, bare-stops, bare-goes}
 use Rattle.reading.proofs.atoms.settle.Statement.{statement}
 use Rattle.reading.proofs.atoms.settle.Tie as tie
 
-
 one-requires : tie.Need-one-requires
 one-requires c κs = search needs
 

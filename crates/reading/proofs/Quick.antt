@@ -1,0 +1,117 @@
+-- A space is passed over, and one of the bytes of groups and arrays is a token by itself: what the definition reads at such a byte is known without
+-- looking further.
+use mathlib.Core.Path.{_≡_, refl, sym, _∙_, ap}
+use mathlib.Core.Bool.{Bool, true, false, not, _&&_, _||_}
+use mathlib.Core.List.{List, []}
+use Prim.Native.Nat.{ℕ, suc, _+_, _<_, _≤_}
+use native.Mathlib.Omega.{arith}
+use native.Mathlib.Numerals.{add-one}
+use lib.Dec.{leb, eqb}
+use lib.ListN.{length, getD}
+use borrow.Author.Tests.{eqb-true, leb-true, not-true}
+use Rattle.chars.specs.Limits.{limits}
+use Rattle.chars.specs.Stream.{streamAt, clean}
+use Rattle.chars.specs.Character.{characterAt}
+use Rattle.chars.specs.declared.Character.the-variants.{Clean}
+use Rattle.chars.proofs.Cases.{either, both}
+use Rattle.chars.proofs.Streams.{at-character}
+use Rattle.tokens.specs.Sorts.{visible, white, atomic, inclusive, exclusive, legal}
+use Rattle.tokens.specs.Runs.{classOf}
+use Rattle.tokens.specs.Tokens.{tokens, between, step, begins, follows, tokenAt}
+use Rattle.tokens.specs.declared.Token.the-variants.{Simple}
+use Rattle.tokens.proofs.Copying.{clean-zero}
+use Rattle.tokens.proofs.Skipping.{alone-at}
+use Rattle.tokens.proofs.Starts.{alone}
+use Rattle.reading.specs.Entity.{sizes}
+use Rattle.reading.specs.Making.{fitted}
+use Rattle.reading.specs.Judging.{bares}
+use Rattle.reading.specs.Reading.{before, entities}
+use Rattle.reading.specs.Stepping.{Ready, Steady, roomLeft, readerOf, agrees, judgedAs, closingAs, pieceOf, ahead}
+use Rattle.reading.specs.Rounds.{isAtom, behindOf, goesRound}
+use Rattle.reading.specs.declared.step.State.{State}
+use Rattle.reading.specs.declared.step.Step.{Step}
+use Rattle.reading.specs.declared.round.Round.the-variants.{On, Over}
+use Rattle.reading.proofs.Listing.{written-none, text-none}
+use Rattle.reading.proofs.Cutting.{first-byte}
+use Rattle.reading.proofs.Deciding.{by-itself}
+use Rattle.reading.proofs.Walking.{later, behind-here, here}
+
+-- what each of the bytes is
+test : ℕ → Bool
+test b = not (white b) && (not (eqb b 0x23) && (visible b && (not (inclusive b) && (atomic b && leb 1 (classOf b)))))
+
+passes : (b : ℕ) → isAtom b ≡ true → test b ≡ true
+unfolding test isAtom white visible inclusive atomic classOf exclusive legal
+passes b =
+    either (eqb b 0x28)
+    (λ t e. rw (eqb-true b 0x28 t))
+    (λ t. rw t
+    (either (eqb b 0x29)
+    (λ u e. rw (eqb-true b 0x29 u))
+    (λ u. rw u
+    (either (eqb b 0x2C)
+    (λ v e. rw (eqb-true b 0x2C v))
+    (λ v. rw v (λ w. rw (eqb-true b 0x5D w)))))))
+
+module _ (draft : List ℕ) (at : ℕ) (there : at < length draft) where
+  -- a byte of US-ASCII that is neither CR nor nul is a character by itself
+  lone : 1 ≤ classOf (getD draft at 0) → characterAt draft at ≡ Clean (getD draft at 0) (at + 1)
+  lone own = alone-at draft at there own
+
+  pub token-here : isAtom (getD draft at 0) ≡ true → tokenAt limits draft at ≡ Simple at (at + 1) 1
+  unfolding test tokenAt
+  token-here t =
+      let b = getD draft at 0 in
+      let p1 = both (not (white b)) _ (passes b t) in
+      let p2 = both (not (eqb b 0x23)) _ (p1 .1) in
+      let p3 = both (visible b) _ (p2 .1) in
+      let p4 = both (not (inclusive b)) _ (p3 .1) in
+      let p5 = both (atomic b) _ (p4 .1) in
+      alone limits draft at b (at + 1) (lone (leb-true 1 (classOf b) (p5 .1))) (not-true (white b) (p1 .0)) (not-true (eqb b 0x23) (p2 .0)) (p3 .0)
+      (not-true (inclusive b) (p4 .0)) (p5 .0)
+
+  blank-here : getD draft at 0 ≡ 0x20 → tokens limits between (streamAt draft at) ≡ tokens limits between (streamAt draft (at + 1))
+  unfolding tokens step begins follows white classOf visible exclusive legal inclusive atomic
+  blank-here e =
+      rw (at-character draft at 0x20 (at + 1) (rw e at (lone (rw e (omega arith)))))
+
+module _ (draft list text groups : List ℕ) (s : State) (at : ℕ) (there : at < length draft) (ready : Ready s list text groups at) where
+  pub blank-on : getD draft at 0 ≡ 0x20 → goesRound draft list text groups s at (On s (at + 1)) list text groups
+  unfolding goesRound ahead before sizes
+  blank-on e = (
+    record {
+      es = [];
+      list-is = sym (written-none list (s .entities) (s .text));
+      text-is = sym (text-none text (s .text));
+      many = omega arith;
+      much = omega arith;
+      comes = ap (entities limits draft (roomLeft s list text) (readerOf s groups)) (blank-here draft at there e);
+    },
+    later s list text groups at (at + 1) (omega arith) ready,
+    omega arith,
+    there,
+  )
+
+  -- what a token by itself came to
+  pub atom-on :
+      isAtom (getD draft at 0) ≡ true → s .opened ≡ false → (r : Step) (list′ groups′ : List ℕ)
+      → ((T : List ℕ) → getD T 0 0 ≡ getD draft at 0
+      → agrees (fitted (roomLeft s list text) (bares 0 at) (judgedAs 0 (readerOf s groups) at T [])) r s list text list′ text groups′ at)
+      → length list′ ≡ length list → goesRound draft list text groups s at (behindOf r s at (at + 1)) list′ text groups′
+  unfolding pieceOf
+  atom-on t unopened r list′ groups′ a l =
+      let is = ap pieceOf (sym (token-here draft at there t)) in
+      let some : _≡_ {A = ℕ} 0 4 → ⊥ = λ e. omega arith in
+      let k = here draft list text groups s at (pieceOf (Simple at (at + 1) 1)) is some in
+      let T = clean 1 (streamAt draft at) in
+      let one = ap (λ l. getD l 0 0) (first-byte draft at 1 0 0 (k .contents) (omega arith)) in
+      behind-here draft list text groups s at (pieceOf (Simple at (at + 1) 1)) is some list′ text groups′ r
+      (by-itself s list text groups at 0 (getD draft at 0) T (clean 0 (streamAt draft 0)) r list′ text groups′ (rw unopened)
+      (rw (clean-zero (streamAt draft 0)) (a T one)))
+      l
+      refl
+      (λ e. omega arith)
+
+pub steady : (s : State) (list text groups : List ℕ) (at : ℕ) → Ready s list text groups at → Steady s list groups at
+steady s list text groups at ready =
+    record { deep = ready .deep; array = ready .array; held = ready .held; small = ready .small; numbers = ready .numbers }
