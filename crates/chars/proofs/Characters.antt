@@ -32,6 +32,8 @@ pub record Is (bytes : List ℕ) (place number after : ℕ) : Type 0 where
   pub on : place < after
   pub most : after ≤ place + 6
   pub there : after ≤ place + length bytes
+  -- it takes no fewer bytes than it is re-encoded in
+  pub enough : place + length (encoded number) ≤ after
   pub small : number < 0x110000
   pub no-nul : 0 < number
   pub no-return : number ≡ 0x0D → ⊥
@@ -56,6 +58,7 @@ with-line b (d ∷ behind) place number after r e =
       on = omega arith;
       most = omega arith;
       there = omega arith;
+      enough = omega (arith, ap length (encoded-one number (omega arith)));
       small = omega arith;
       no-nul = omega arith;
       no-return = λ h. omega arith;
@@ -87,6 +90,7 @@ joined bytes place v a number after (Whole w c) first nr t q e =
       on = omega arith;
       most = omega arith;
       there = omega arith;
+      enough = omega (arith, encoded-size number);
       small = omega arith;
       no-nul = omega arith;
       no-return = λ h. omega arith;
@@ -117,6 +121,7 @@ plainly bytes place number after (Whole v a) q n r e =
       on = omega arith;
       most = omega arith;
       there = omega arith;
+      enough = omega (arith, first .so-many, ap (λ n. length (encoded n)) p);
       small = omega arith;
       no-nul =
           either (eqb v 0)

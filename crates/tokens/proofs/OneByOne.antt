@@ -2,11 +2,11 @@
 -- behind it are those from the byte after it on. A character that ends a token, left out, is looked at once more as where no token has begun.
 use mathlib.Core.Path.{_≡_, refl, sym, _∙_, ap, subst}
 use mathlib.Core.Bool.{Bool, true, false, not, _&&_, false≢true}
-use mathlib.Core.List.{List, _++_, append-nil, append-assoc}
-use Prim.Native.Nat.{ℕ, zero, suc, _+_, _-_, _<_, _≤_}
+use mathlib.Core.List.{List}
+use Prim.Native.Nat.{ℕ, zero, suc, _+_, _<_, _≤_}
 use native.Mathlib.Omega.{arith}
 use lib.Dec.{eqb, ltb}
-use lib.ListN.{length, length-append}
+use lib.ListN.{length, getD, take, drop}
 use borrow.Author.Tests.{ltb-true, ltb-false, not-false}
 use Rattle.chars.specs.Choice.{if_then_else_}
 use Rattle.chars.specs.Limits.{Limits}
@@ -18,12 +18,12 @@ use Rattle.tokens.specs.Tokens.{simple, quoted, curly, Whole, Tokens, to
 use Rattle.tokens.specs.Tokens.{Outcome, goes, gives, ends, refuses, simply, closed, opens, begins, continues, inside, down, nested, step, follows, tokens}
 use Rattle.chars.specs.Stream.{clean}
 use Rattle.chars.proofs.Cases.{either}
-use Rattle.chars.proofs.Characters.{character-is}
 use Rattle.chars.proofs.Extent.{encoded-one}
 use Rattle.tokens.proofs.Passing.{class-at}
 use Rattle.tokens.proofs.Classes.{foreign}
-use Rattle.tokens.proofs.Skipping.{by-character, reaches, own-class, cr-line}
-use Rattle.tokens.proofs.Copying.{clean-zero, clean-next}
+use Rattle.tokens.proofs.Skipping.{by-character, reaches, own-byte, own-class, cr-line}
+use Rattle.tokens.proofs.Copying.{clean-zero}
+use Rattle.tokens.proofs.Spans.{Spans, empty, longer, spans-on, spans-length, spans-raw}
 
 -- a string is no simple token
 not-quoted : quoted ≡ simple → ⊥
@@ -38,43 +38,8 @@ unfolding simply
 simply-after place after n = refl
 
 module _ (L : Limits) (one : 1 ≤ L .token) (draft : List ℕ) where
-  -- the characters from `from` up to `i` have `n` clean bytes, and whatever room is left goes to those from `i` on
-  pub record Cleaned (from n i : ℕ) : Type 0 where
-    pub long : length (clean n (streamAt draft from)) ≡ n
-    pub more : (m : ℕ) → clean (n + m) (streamAt draft from) ≡ clean n (streamAt draft from) ++ clean m (streamAt draft i)
-
-  cleaned-none : (i : ℕ) → Cleaned i 0 i
-  cleaned-none i =
-      record {
-        long = ap length (clean-zero (streamAt draft i));
-        more = λ m. let same : 0 + m ≡ m = omega arith in rw (same, clean-zero (streamAt draft i));
-      }
-
-  cleaned-on :
-      (from n i number after : ℕ) → Cleaned from n i → characterAt draft i ≡ Clean number after
-      → Cleaned from (n + length (encoded number)) after
-  cleaned-on from n i number after c e =
-      let size = length (encoded number) in
-      let all : clean size (streamAt draft i) ≡ encoded number =
-      clean-next draft i size number after e (omega arith)
-      ∙ (let none : size - size ≡ 0 = omega arith in rw (none, clean-zero (streamAt draft after)) (append-nil (encoded number))) in
-      let so-far : clean (n + size) (streamAt draft from) ≡ clean n (streamAt draft from) ++ encoded number =
-      c .more size ∙ ap (λ l. clean n (streamAt draft from) ++ l) all in
-      record {
-        long = ap length so-far ∙ (length-append (clean n (streamAt draft from)) (encoded number) ∙ ap (λ k. k + size) (c .long));
-        more =
-            λ m.
-            let regroup : n + size + m ≡ n + (size + m) = omega arith in
-            let left : size + m - size ≡ m = omega arith in
-            ap (λ k. clean k (streamAt draft from)) regroup
-            ∙ (c .more (size + m)
-            ∙ (ap (λ l. clean n (streamAt draft from) ++ l) (clean-next draft i (size + m) number after e (omega arith))
-            ∙ (ap (λ k. clean n (streamAt draft from) ++ (encoded number ++ clean k (streamAt draft after))) left
-            ∙ (sym (append-assoc (clean n (streamAt draft from)) (encoded number) (clean m (streamAt draft after)))
-            ∙ ap (λ l. l ++ clean m (streamAt draft after)) (sym so-far)))));
-      }
-
-  -- a token that begins at `from` or behind it: where it stands, how long it may be, and that its text and data are as long as it says
+  -- A token that begins at `from` or behind it: where it stands, how long it may be, and that its text and data are as long as it says. Its text
+  -- is the draft's own bytes, and so is its data where that takes no more bytes than it has clean ones.
   pub record Sound (from : ℕ) (w : Whole) : Type 0 where
     pub behind : from ≤ w .place
     pub on : w .place < w .after
@@ -82,11 +47,14 @@ module _ (L : Limits) (one : 1 ≤ L .token) (draft : List ℕ) where
     pub short : w .prefix ≤ L .token
     pub brief : w .length ≤ L .string
     pub text-long : length (clean (w .prefix) (streamAt draft (w .place))) ≡ w .prefix
+    pub text-raw : clean (w .prefix) (streamAt draft (w .place)) ≡ take (w .prefix) (drop (w .place) draft)
     pub string-long : length (clean (w .length) (streamAt draft (w .from))) ≡ w .length
+    pub string-raw :
+        w .after ≡ w .from + w .length + 1 → clean (w .length) (streamAt draft (w .from)) ≡ take (w .length) (drop (w .from) draft)
+    pub opened : w .from < w .after
     -- a simple token has a first character, which is its own byte
     pub some : w .sort ≡ simple → 1 ≤ w .prefix
     pub own : 1 ≤ w .prefix → 1 ≤ class-at draft (w .place)
-    pub from-there : w .from ≤ length draft
 
   -- the tokens from `from` on: a token and the tokens from the byte after it on, or an end
   pub data OneByOne (from : ℕ) : Tokens → Type 0 where
@@ -97,11 +65,11 @@ module _ (L : Limits) (one : 1 ≤ L .token) (draft : List ℕ) where
   -- a token or prefix of `n` bytes that began at `place`, up to `i`
   record Begun (from i place n : ℕ) : Type 0 where
     behind : from ≤ place
-    before : place < i
     short : n ≤ L .token
     some : 1 ≤ n
     own : 1 ≤ class-at draft place
-    text : Cleaned place n i
+    text : Spans draft place n i
+    whole : i ≡ place + n
 
   -- a string with `n` clean bytes of data up to `i`
   record Inside (from i : ℕ) (o : Opened) (n : ℕ) : Type 0 where
@@ -109,10 +77,11 @@ module _ (L : Limits) (one : 1 ≤ L .token) (draft : List ℕ) where
     before : o .place < i
     short : o .prefix ≤ L .token
     brief : n ≤ L .string
-    text-long : length (clean (o .prefix) (streamAt draft (o .place))) ≡ o .prefix
+    text-end : ℕ
+    text : Spans draft (o .place) (o .prefix) text-end
+    text-whole : text-end ≡ o .place + o .prefix
     own : 1 ≤ o .prefix → 1 ≤ class-at draft (o .place)
-    data-there : o .from ≤ length draft
-    string-text : Cleaned (o .from) n i
+    string-text : Spans draft (o .from) n i
     no-simple : o .sort ≡ simple → ⊥
 
   -- what a state knows of the token that has begun
@@ -141,54 +110,59 @@ module _ (L : Limits) (one : 1 ≤ L .token) (draft : List ℕ) where
     either-way true a b = a refl
     either-way false a b = b refl
 
-    -- a legal character is one byte, clean
-    single : legal number ≡ true → length (encoded number) ≡ 1
-    single t =
-        either (ltb number 0x80)
-        (λ l. ap length (encoded-one number (ltb-true number 0x80 l)))
-        (λ l. absurd (false≢true (sym (foreign number (ltb-false number 0x80 l) .no-legal) ∙ t)))
-
-    -- the first character of a token
-    first-one : white number ≡ false → visible number ≡ true → Begun from after i 1
-    unfolding legal
-    first-one w v =
-        let size : length (encoded number) ≡ 1 = single (rw v) in
+    -- a legal character other than LF is one byte, clean, and its own
+    single :
+        legal number ≡ true → (number ≡ 0x0A → ⊥)
+        → (length (encoded number) ≡ 1) × (after ≡ i + 1) × (1 ≤ class-at draft i)
+    single t line =
         let low : number < 0x80 =
         either (ltb number 0x80)
         (λ l. ltb-true number 0x80 l)
-        (λ l. absurd (false≢true (sym (foreign number (ltb-false number 0x80 l) .no-visible) ∙ v))) in
-        let text = cleaned-on i 0 i number after (cleaned-none i) e in
-        let all : 0 + length (encoded number) ≡ 1 = omega arith in
+        (λ l. absurd (false≢true (sym (foreign number (ltb-false number 0x80 l) .no-legal) ∙ t))) in
+        let no-return : getD draft i 0 ≡ 0x0D → ⊥ = λ c. line (cr-line draft i number after e c) in (
+          ap length (encoded-one number low),
+          own-byte draft i number after e low no-return .0,
+          own-class draft i number after e low no-return .1,
+        )
+
+    -- the first character of a token
+    first-one : white number ≡ false → visible number ≡ true → Begun from after i 1
+    unfolding legal white
+    first-one w v =
+        let is = single (rw v) (λ l. false≢true (sym w ∙ ap white l)) in
+        let size : 0 + length (encoded number) ≡ 1 = omega arith in
         record {
           behind = f;
-          before = far .0;
           short = one;
           some = omega arith;
-          own = own-class draft i number after e low (λ c. false≢true (sym w ∙ cr-line draft i number after e c)) .1;
-          text = rw all at text;
+          own = is .2;
+          text = rw size at (longer draft number after e (empty i));
+          whole = is .1;
         }
 
-    simply-sound : (begun n to : ℕ) → Begun from to begun n → begun < to → to ≤ length draft → Sound from (simply begun to n)
+    simply-sound : (begun n to : ℕ) → Begun from to begun n → to ≤ length draft → Sound from (simply begun to n)
     unfolding simply
-    simply-sound begun n to b h m =
+    simply-sound begun n to b m =
         record {
           behind = b .behind;
-          on = h;
+          on = omega (arith, b .some, b .whole);
           there = m;
           short = b .short;
           brief = omega arith;
-          text-long = b .text .long;
+          text-long = spans-length draft (b .text);
+          text-raw = spans-raw draft (b .text) (b .whole);
           string-long = ap length (clean-zero (streamAt draft 0));
+          string-raw = λ h. clean-zero (streamAt draft 0);
+          opened = omega (arith, b .some, b .whole);
           some = λ s. b .some;
           own = λ s. b .own;
-          from-there = omega arith;
         }
 
     opens-shape :
-        (begun n : ℕ) → from ≤ begun → begun < after → n ≤ L .token → length (clean n (streamAt draft begun)) ≡ n
+        (begun n to : ℕ) → from ≤ begun → begun < after → n ≤ L .token → Spans draft begun n to → to ≡ begun + n
         → (1 ≤ n → 1 ≤ class-at draft begun) → Shape from number i after (opens number begun n after)
     unfolding opens
-    opens-shape begun n g h k c w =
+    opens-shape begun n to g h k s r w =
         on
         (string (record { sort = if eqb number 0x22 then quoted else curly; place = begun; prefix = n; from = after }) 0 1 false)
         (record {
@@ -196,10 +170,11 @@ module _ (L : Limits) (one : 1 ≤ L .token) (draft : List ℕ) where
           before = h;
           short = k;
           brief = omega arith;
-          text-long = c;
+          text-end = to;
+          text = s;
+          text-whole = r;
           own = w;
-          data-there = far .1;
-          string-text = cleaned-none after;
+          string-text = empty after;
           no-simple = λ s. either (eqb number 0x22) (λ t. not-quoted (rw t at s)) (λ t. not-curly (rw t at s));
         })
 
@@ -210,33 +185,33 @@ module _ (L : Limits) (one : 1 ≤ L .token) (draft : List ℕ) where
         (λ w. either-way (eqb number 0x23) (λ t. on comment (omega (arith, far .0)))
         (λ t. either-way (not (visible number)) (λ t. bad 6 i)
         (λ v. either-way (inclusive number)
-        (λ t. opens-shape i 0 f (far .0) (omega arith) (cleaned-none i .long) (λ h. absurd (omega arith)))
+        (λ t. opens-shape i 0 i f (far .0) (omega arith) (empty i) (omega arith) (λ h. absurd (omega arith)))
         (λ t. either-way (atomic number)
-        (λ t. whole _ (simply-sound i 1 after (first-one w (not-false (visible number) v)) (far .0) (far .1)) (simply-after i after 1))
+        (λ t. whole _ (simply-sound i 1 after (first-one w (not-false (visible number) v)) (far .1)) (simply-after i after 1))
         (λ t. either-way (eqb number 0x7C)
         (λ t. on (bar i) (first-one w (not-false (visible number) v)))
         (λ t. on (word i 1) (first-one w (not-false (visible number) v))))))))
 
     continues-shape : (begun n : ℕ) → Begun from i begun n → Shape from number i after (continues L begun n number i after)
-    unfolding continues
+    unfolding continues exclusive
     continues-shape begun n b =
         either-way (not (legal number)) (λ t. bad 6 i)
         (λ t. either-way (exclusive number)
-        (λ t. left-out _ (simply-sound begun n i b (b .before) (omega (arith, far .0, far .1))) (simply-after begun i n))
-        (λ t2. either-way (inclusive number)
-        (λ t. opens-shape begun n (b .behind) (omega (arith, b .before, far .0)) (b .short) (b .text .long) (λ h. b .own))
+        (λ t. left-out _ (simply-sound begun n i b (omega (arith, far .0, far .1))) (simply-after begun i n))
+        (λ x. either-way (inclusive number)
+        (λ t. opens-shape begun n i (b .behind) (omega (arith, b .whole, far .0)) (b .short) (b .text) (b .whole) (λ h. b .own))
         (λ t3. either-way (ltb n (L .token))
         (λ l.
-        let size = single (not-false (legal number) t) in
+        let is = single (not-false (legal number) t) (λ l. false≢true (sym x ∙ ap exclusive l)) in
         let more : n + length (encoded number) ≡ suc n = omega arith in
         on (word begun (suc n))
         (record {
           behind = b .behind;
-          before = omega (arith, b .before, far .0);
           short = ltb-true n (L .token) l;
           some = omega arith;
           own = b .own;
-          text = rw more at (cleaned-on begun n i number after (b .text) e);
+          text = rw more at (longer draft number after e (b .text));
+          whole = omega (arith, b .whole, is .1);
         }))
         (λ t. bad 8 i))))
 
@@ -253,11 +228,13 @@ module _ (L : Limits) (one : 1 ≤ L .token) (draft : List ℕ) where
           there = far .1;
           short = b .short;
           brief = b .brief;
-          text-long = b .text-long;
-          string-long = b .string-text .long;
+          text-long = spans-length draft (b .text);
+          text-raw = spans-raw draft (b .text) (b .text-whole);
+          string-long = spans-length draft (b .string-text);
+          string-raw = λ h. spans-raw draft (b .string-text) (omega (arith, spans-on draft (b .string-text), far .0));
+          opened = omega (arith, spans-on draft (b .string-text), far .0);
           some = λ s. absurd (b .no-simple s);
           own = b .own;
-          from-there = b .data-there;
         }) refl)
         (λ t. either-way (ltb (L .string) (n + length (encoded number))) (λ t. bad 9 i)
         (λ l.
@@ -267,10 +244,11 @@ module _ (L : Limits) (one : 1 ≤ L .token) (draft : List ℕ) where
           before = omega (arith, b .before, far .0);
           short = b .short;
           brief = ltb-false (L .string) (n + length (encoded number)) l;
-          text-long = b .text-long;
+          text-end = b .text-end;
+          text = b .text;
+          text-whole = b .text-whole;
           own = b .own;
-          data-there = b .data-there;
-          string-text = cleaned-on (o .from) n i number after (b .string-text) e;
+          string-text = longer draft number after e (b .string-text);
           no-simple = b .no-simple;
         })))
 
@@ -281,7 +259,7 @@ module _ (L : Limits) (one : 1 ≤ L .token) (draft : List ℕ) where
         either-way (eqb number 0x0A) (λ t. on between (omega (arith, far .0))) (λ t. on comment (omega (arith, far .0)))
     shape (bar begun) v =
         either-way (eqb number 0x3B)
-        (λ t. over begun (v .behind) (omega (arith, v .before, far .0)))
+        (λ t. over begun (v .behind) (omega (arith, v .whole, far .0)))
         (λ t. continues-shape begun 1 v)
     shape (word begun n) v = continues-shape begun n v
     shape (string o n level odd) v = inside-shape o n level odd v

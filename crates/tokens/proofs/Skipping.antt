@@ -209,24 +209,20 @@ module _ (draft : List ℕ) where
   unfolding characterAt
   scalar i number after e = character-is (drop i draft) i number after e .small
 
-  -- CR gives LF, which is whitespace
+  -- CR gives LF
   pub cr-line :
-      (i number after : ℕ) → characterAt draft i ≡ Clean number after → getD draft i 0 ≡ 0x0D → white number ≡ true
-  unfolding white characterAt
+      (i number after : ℕ) → characterAt draft i ≡ Clean number after → getD draft i 0 ≡ 0x0D → number ≡ 0x0A
+  unfolding characterAt
   cr-line i number after e r =
       let here : getD (drop i draft) 0 0 ≡ getD draft i 0 = getD-drop i draft 0 0 ∙ ap (λ k. getD draft k 0) (add-zero i) in
-      let line = character-is (drop i draft) i number after e .returned (here ∙ r) in
-      rw line
+      character-is (drop i draft) i number after e .returned (here ∙ r)
 
   -- CR with LF is whitespace
   pub line-passed :
       (i number after : ℕ) → characterAt draft i ≡ Clean number after → getD draft i 0 ≡ 0x0D
       → pastBlanks (streamAt draft i) ≡ pastBlanks (streamAt draft after)
-  unfolding pastBlanks white characterAt
-  line-passed i number after e r =
-      let here : getD (drop i draft) 0 0 ≡ getD draft i 0 = getD-drop i draft 0 0 ∙ ap (λ k. getD draft k 0) (add-zero i) in
-      let line = character-is (drop i draft) i number after e .returned (here ∙ r) in
-      rw (at-character draft i number after e, line)
+  unfolding pastBlanks white
+  line-passed i number after e r = rw (at-character draft i number after e, cr-line i number after e r)
 
   -- where the characters stop, a comment goes no further
   pub comment-stops :
@@ -256,11 +252,8 @@ module _ (draft : List ℕ) where
   pub no-mark :
       (mark i number after : ℕ) → mark < 0x80 → (mark ≡ 0x0A → ⊥) → characterAt draft i ≡ Clean number after
       → (getD draft i 0 ≡ mark → ⊥) → number ≡ mark → ⊥
-  unfolding characterAt
   no-mark mark i number after h line e r z =
-      let here : getD (drop i draft) 0 0 ≡ getD draft i 0 = getD-drop i draft 0 0 ∙ ap (λ k. getD draft k 0) (add-zero i) in
-      let cr = character-is (drop i draft) i number after e .returned in
-      let own = own-byte i number after e (omega arith) (λ c. line (sym z ∙ cr (here ∙ c))) in
+      let own = own-byte i number after e (omega arith) (λ c. line (sym z ∙ cr-line i number after e c)) in
       r (own .1 ∙ z)
 
   -- where neither whitespace nor a comment stands, both end
@@ -291,12 +284,9 @@ module _ (draft : List ℕ) where
   -- a character whose byte has class 0 is LF, from CR with LF, or is not US-ASCII
   pub foreign-number :
       (i number after : ℕ) → class-at draft i ≡ 0 → characterAt draft i ≡ Clean number after → (number ≡ 0x0A → ⊥) → 0x80 ≤ number
-  unfolding characterAt
   foreign-number i number after k e line =
       either (ltb number 0x80)
       (λ l.
-      let here : getD (drop i draft) 0 0 ≡ getD draft i 0 = getD-drop i draft 0 0 ∙ ap (λ k. getD draft k 0) (add-zero i) in
-      let own = own-class i number after e (ltb-true number 0x80 l)
-      (λ c. line (character-is (drop i draft) i number after e .returned (here ∙ c))) in
+      let own = own-class i number after e (ltb-true number 0x80 l) (λ c. line (cr-line i number after e c)) in
       absurd (omega (arith, own .1)))
       (λ l. ltb-false number 0x80 l)

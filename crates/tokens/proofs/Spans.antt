@@ -1,13 +1,14 @@
 -- A token's own bytes, and a string's data, are whole characters, with just as many clean bytes as the token says. So bytes behind the
--- token bear on neither, since each character is decided by the bytes up to the byte after it.
+-- token bear on neither, since each character is decided by the bytes up to the byte after it. Characters that take no more bytes than they
+-- have clean ones are the draft's own bytes, since only CR LF and two surrogates are changed, and these take more.
 use mathlib.Core.Path.{_≡_, refl, sym, _∙_, ap, subst}
 use mathlib.Core.Bool.{Bool, true, false, not, _&&_, true≢false}
 use mathlib.Core.List.{List, _++_}
 use Prim.Native.Nat.{ℕ, suc, _+_, _-_, _≤_}
 use native.Mathlib.Omega.{arith}
 use lib.Dec.{eqb, ltb}
-use lib.ListN.{length, take, length-append}
-use lib.Seq.{take-take}
+use lib.ListN.{length, take, drop, length-append}
+use lib.Seq.{take-take, take-add, drop-drop}
 use borrow.Author.Tests.{not-false}
 use Rattle.chars.specs.Choice.{if_then_else_}
 use Rattle.chars.specs.Limits.{Limits}
@@ -15,7 +16,9 @@ use Rattle.chars.specs.Character.{characterAt, encoded}
 use Rattle.chars.specs.Stream.{streamAt, clean}
 use Rattle.chars.specs.declared.Character.the-variants.{Clean}
 use Rattle.chars.proofs.Cases.{by-bound}
+use Rattle.chars.proofs.Characters.{character-is}
 use Rattle.chars.proofs.Extent.{encoded-one}
+use Rattle.chars.proofs.Kept.{kept}
 use Rattle.chars.proofs.Locality.{same-character}
 use Rattle.tokens.specs.Sorts.{visible, white, atomic, exclusive, inclusive, legal}
 use Rattle.tokens.specs.Tokens.{quoted, curly, Whole, Opened, State, between, comment, bar, word, string}
@@ -46,11 +49,14 @@ module _ (draft : List ℕ) where
         (p number after n i : ℕ) → characterAt draft p ≡ Clean number after → Spans after n i
         → Spans p (length (encoded number) + n) i
 
-  pub spans-on : {p n i : ℕ} → Spans p n i → p ≤ i
+  -- they take no fewer bytes than they have clean ones
+  pub spans-on : {p n i : ℕ} → Spans p n i → p + n ≤ i
+  unfolding characterAt
   spans-on (empty p) = omega arith
-  spans-on (led p number after n i e s) = omega (arith, reaches draft p number after e .0, spans-on s)
+  spans-on (led p number after n i e s) =
+      omega (arith, character-is (drop p draft) p number after e .enough, spans-on s)
 
-  longer :
+  pub longer :
       {p n i : ℕ} (number after : ℕ) → characterAt draft i ≡ Clean number after → Spans p n i
       → Spans p (n + length (encoded number)) after
   longer number after e (empty p) =
@@ -74,6 +80,19 @@ module _ (draft : List ℕ) where
       let size = length (encoded number) in
       let less : size + n - size ≡ n = omega arith in
       rw (clean-next draft p (size + n) number after e (omega arith), less, length-append, spans-length s)
+
+  -- where they take just as many, the clean bytes are the draft's own
+  pub spans-raw : {p n i : ℕ} → Spans p n i → i ≡ p + n → clean n (streamAt draft p) ≡ take n (drop p draft)
+  unfolding characterAt
+  spans-raw (empty p) h = clean-zero (streamAt draft p)
+  spans-raw (led p number after n i e s) h =
+      let size = length (encoded number) in
+      let less : size + n - size ≡ n = omega arith in
+      let end : after ≡ p + size = omega (arith, character-is (drop p draft) p number after e .enough, spans-on s) in
+      let long : after - p ≡ size = omega arith in
+      let own : take size (drop p draft) ≡ encoded number = rw long at (kept (drop p draft) p number after e end) in
+      clean-next draft p (size + n) number after e (omega arith)
+      ∙ rw (less, spans-raw s (omega arith), take-add, own, drop-drop, ← end)
 
   -- a token whose own bytes and data end at `by` or before
   pub record Written (by : ℕ) (w : Whole) : Type 0 where
@@ -187,6 +206,6 @@ module _ (d e : List ℕ) where
   spans-same (led p number after n i is s) same =
       let size = length (encoded number) in
       let less : size + n - size ≡ n = omega arith in
-      let there = same-character d e p number after is (fewer after i (spans-on d s) same) in
+      let there = same-character d e p number after is (fewer after i (omega (arith, spans-on d s)) same) in
       rw (clean-next d p (size + n) number after is (omega arith), clean-next e p (size + n) number after there (omega arith), less)
       (ap (λ bytes. encoded number ++ bytes) (spans-same s same))
