@@ -66,6 +66,7 @@ module _ (L : Limits) (some-token : 1 ≤ L .token) (draft : List ℕ) where
       (record {
         here = omega (arith, s .on, s .there);
         text-long = s .text-long;
+        text-raw = s .text-raw;
         string-long = s .string-long;
         own = s .own;
       })

@@ -2,10 +2,12 @@
 -- that byte is a character by itself.
 use mathlib.Core.Path.{_≡_, refl, sym, _∙_, ap}
 use mathlib.Core.List.{List, [], _∷_, _++_, tail}
-use Prim.Native.Nat.{ℕ, _+_, _-_, _*_, _≤_}
+use Prim.Native.Nat.{ℕ, zero, suc, _+_, _-_, _*_, _≤_}
 use native.Mathlib.Omega.{arith}
+use native.Mathlib.Numerals.{add-one}
 use lib.Dec.{eqb}
-use lib.ListN.{length, getD, length-append}
+use lib.ListN.{length, getD, take, drop, length-append}
+use lib.Seq.{drop-cons}
 use borrow.Author.Tests.{eq-eqb, ne-eqb, eqb-true, eqb-false}
 use Rattle.chars.specs.Character.{encoded}
 use Rattle.chars.specs.Stream.{streamAt, clean}
@@ -19,6 +21,10 @@ use Rattle.reading.specs.Judging.{bares, cut, filled, lasts, written, te
 use Rattle.reading.specs.Stepping.{Contents}
 use Rattle.reading.specs.declared.judge.Made.{Made}
 use Rattle.reading.proofs.Listing.{no-bare, one-bare, written-more, written-length, texts-append, sizes-append}
+
+tail-take : (n b : ℕ) (bytes : List ℕ) → tail (take n (b ∷ bytes)) ≡ take (n - 1) bytes
+tail-take zero b bytes = refl
+tail-take (suc n) b bytes = let less : suc n - 1 ≡ n = omega arith in rw less
 
 module _ (draft : List ℕ) (place prefix from n : ℕ) (c : Contents draft place prefix from n) where
   -- the first byte of the text, and the rest
@@ -48,6 +54,11 @@ module _ (draft : List ℕ) (place prefix from n : ℕ) (c : Contents draft plac
       rw (none, zero-prefix, clean-zero, clean-zero))
       (λ t. ap tail (first-byte (omega (arith, eqb-false prefix 0 t))))
 
+  rest-raw : clean (prefix - 1) (streamAt draft (place + 1)) ≡ take (prefix - 1) (drop (place + 1) draft)
+  rest-raw =
+      sym tail-is
+      ∙ (ap tail (c .text-raw) ∙ rw (drop-cons draft place 0 (c .here), add-one) (tail-take prefix (getD draft place 0) (drop (suc place) draft)))
+
   pub cut-clean :
       (how : ℕ) → cut how (clean prefix (streamAt draft place)) ≡ clean (cutLength how prefix) (streamAt draft (cutFrom how place))
   unfolding cut cutLength cutFrom
@@ -56,12 +67,23 @@ module _ (draft : List ℕ) (place prefix from n : ℕ) (c : Contents draft plac
       (λ t. rw t (sym (clean-zero (streamAt draft place))))
       (λ t. rw t (either (eqb how 1) (λ u. rw u) (λ u. rw u tail-is)))
 
-  pub cut-long : (how : ℕ) → length (clean (cutLength how prefix) (streamAt draft (cutFrom how place))) ≡ cutLength how prefix
+  -- what holds of none of the text, of all of it and of all but its first byte
+  by-cut :
+      (P : (n at : ℕ) → Type 0) → P 0 place → P prefix place → P (prefix - 1) (place + 1)
+      → (how : ℕ) → P (cutLength how prefix) (cutFrom how place)
   unfolding cutLength cutFrom
-  cut-long how =
-      either (eqb how 0)
-      (λ t. rw t (ap length (clean-zero (streamAt draft place))))
-      (λ t. rw t (either (eqb how 1) (λ u. rw u (c .text-long)) (λ u. rw u rest-long)))
+  by-cut P none all rest how =
+      either (eqb how 0) (λ t. rw t none) (λ t. rw t (either (eqb how 1) (λ u. rw u all) (λ u. rw u rest)))
+
+  pub cut-long : (how : ℕ) → length (clean (cutLength how prefix) (streamAt draft (cutFrom how place))) ≡ cutLength how prefix
+  cut-long =
+      by-cut (λ n at. length (clean n (streamAt draft at)) ≡ n) (ap length (clean-zero (streamAt draft place))) (c .text-long) rest-long
+
+  pub cut-raw :
+      (how : ℕ)
+      → clean (cutLength how prefix) (streamAt draft (cutFrom how place)) ≡ take (cutLength how prefix) (drop (cutFrom how place) draft)
+  cut-raw =
+      by-cut (λ n at. clean n (streamAt draft at) ≡ take n (drop at draft)) (clean-zero (streamAt draft place)) (c .text-raw) rest-raw
 
   -- the last entity of a token
   pub last-one :

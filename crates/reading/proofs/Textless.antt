@@ -58,6 +58,7 @@ module _ (m : Made) (place : ℕ) (s : State) (list text groups T : List ℕ) (p
       record {
         here = omega (arith, length-replicate {A = ℕ} (place + 1) 0);
         text-long = ap length (clean-zero (streamAt draft place));
+        text-raw = clean-zero (streamAt draft place);
         string-long = ap length (clean-zero (streamAt draft 0));
         own = λ h. absurd (omega arith);
       }

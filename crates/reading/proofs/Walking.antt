@@ -18,7 +18,7 @@ use Rattle.reading.specs.Entity.{Entity, sizes, texts, rows}
 use Rattle.reading.specs.Making.{Reader, Room, Handled, stops, holds, handled, closing, judged}
 use Rattle.reading.specs.Judging.{written, textWritten}
 use Rattle.reading.specs.Reading.{Read, refusal, success, before, taken, textOf, stringOf, entities, readWith, reading, answered, roomOf}
-use Rattle.reading.specs.Stepping.{Contents, Ready, openGroups, below, roomLeft, readerOf, agrees, sorted, judgedAs, closingAs, pieceOf, SoFar, ahead}
+use Rattle.reading.specs.Stepping.{Contents, Ready, unchanged, openGroups, below, roomLeft, readerOf, agrees, sorted, judgedAs, closingAs, pieceOf, SoFar, ahead}
 use Rattle.reading.specs.Rounds.{Went, goesRound, behindOf, endedOf}
 use Rattle.reading.specs.declared.Answer.{Answer}
 use Rattle.reading.specs.declared.Piece.{Piece}
@@ -37,6 +37,8 @@ pub record Taken (draft : List ℕ) (at : ℕ) (f : Piece) (ts : Tokens) : Type 
   pub there : f .after ≤ length draft
   pub short : f .prefix ≤ 4096
   pub brief : f .bytes ≤ 4096
+  pub opened : f .from < f .after
+  pub as-is : unchanged draft (f .from) (f .bytes) (f .after - f .from - 1)
   pub contents : Contents draft (f .place) (f .prefix) (f .from) (f .bytes)
   pub comes :
       (room : Room) (r : Reader)
@@ -54,7 +56,7 @@ module _ (draft : List ℕ) (at : ℕ) where
       (w : Whole) (from n : ℕ) → Sound limits token-limit draft at w → length (clean n (streamAt draft from)) ≡ n
       → Contents draft (w .place) (w .prefix) from n
   contains w from n so long =
-      record { here = omega (arith, so .on, so .there); text-long = so .text-long; string-long = long; own = so .own }
+      record { here = omega (arith, so .on, so .there); text-long = so .text-long; text-raw = so .text-raw; string-long = long; own = so .own }
 
   whole :
       (w : Whole) (sort : Sort) → w .sort ≡ sort → Sound limits token-limit draft at w
@@ -69,6 +71,8 @@ module _ (draft : List ℕ) (at : ℕ) where
         there = so .there;
         short = omega (arith, so .short);
         brief = omega arith;
+        opened = omega (arith, so .on);
+        as-is = λ h. clean-zero (streamAt draft 0);
         contents = contains w 0 0 so (ap length (clean-zero (streamAt draft 0)));
         comes = λ room r. refl;
       })
@@ -81,6 +85,8 @@ module _ (draft : List ℕ) (at : ℕ) where
         there = so .there;
         short = omega (arith, so .short);
         brief = so .brief;
+        opened = so .opened;
+        as-is = λ h. so .string-raw (omega (arith, so .opened));
         contents = contains w (w .from) (w .length) so (so .string-long);
         comes = λ room r. refl;
       })
@@ -93,6 +99,8 @@ module _ (draft : List ℕ) (at : ℕ) where
         there = so .there;
         short = omega (arith, so .short);
         brief = so .brief;
+        opened = so .opened;
+        as-is = λ h. so .string-raw (omega (arith, so .opened));
         contents = contains w (w .from) (w .length) so (so .string-long);
         comes = λ room r. refl;
       })
@@ -107,10 +115,13 @@ module _ (draft : List ℕ) (at : ℕ) where
         there = t;
         short = omega arith;
         brief = omega arith;
+        opened = omega arith;
+        as-is = λ h. clean-zero (streamAt draft 0);
         contents =
             record {
               here = omega arith;
               text-long = ap length (clean-zero (streamAt draft place));
+              text-raw = clean-zero (streamAt draft place);
               string-long = ap length (clean-zero (streamAt draft 0));
               own = λ h. absurd (omega arith);
             };

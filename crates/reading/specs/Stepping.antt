@@ -5,7 +5,7 @@ use mathlib.Core.Path.{_≡_}
 use mathlib.Core.Bool.{Bool, false}
 use mathlib.Core.List.{List, [], _∷_}
 use lib.Dec.{eqb, ltb}
-use lib.ListN.{length, getD}
+use lib.ListN.{length, getD, take, drop}
 use Rattle.chars.specs.Choice.{if_then_else_}
 use Rattle.chars.specs.Limits.{limits}
 use Rattle.chars.specs.Stream.{streamAt, clean}
@@ -53,10 +53,16 @@ readerOf s groups =
 unfoldable pub roomLeft : State → (list text : List ℕ) → Room
 roomLeft s list text = record { entities = length list / 6 - s .entities; text = length text - s .text }
 
--- A token's text and data as reading cuts them: they are as long as it says, and its first byte is a character by itself.
+-- Clean bytes that take `raw` bytes of the draft: where these are as many, they are the draft's own.
+abbrev pub unchanged : (draft : List ℕ) → (from n raw : ℕ) → Type 0
+unchanged draft from n raw = raw ≡ n → clean n (streamAt draft from) ≡ take n (drop from draft)
+
+-- A token's text and data as reading cuts them: they are as long as it says, its text is the draft's own bytes, and its first byte is a character by
+-- itself.
 pub record Contents (draft : List ℕ) (place prefix from n : ℕ) : Type 0 where
   pub here : place < length draft
   pub text-long : length (clean prefix (streamAt draft place)) ≡ prefix
+  pub text-raw : clean prefix (streamAt draft place) ≡ take prefix (drop place draft)
   pub string-long : length (clean n (streamAt draft from)) ≡ n
   pub own : 1 ≤ prefix → 1 ≤ classOf (getD draft place 0)
 

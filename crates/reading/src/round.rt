@@ -110,6 +110,7 @@ fn any(
         p.prefix,
         p.from,
         p.bytes,
+        after,
     );
     if sort == 3 {
         return ended(done, s, place, after);

@@ -5,6 +5,7 @@ ghost use Prim.Native.Nat.{_+_, _*_, _<_, _≤_, _^_};
 ghost use lib.ListN.{length, take, drop};
 ghost use Rattle.chars.specs.Stream.{streamAt, clean};
 ghost use Rattle.reading.specs.Judging.{bares, written, textWritten, filled};
+ghost use Rattle.reading.specs.Stepping.{unchanged};
 use tokens::copier::copy;
 
 // Six numbers at a place of the list.
@@ -41,12 +42,29 @@ pub fn bare(list: &mut [u32], held: usize, used: usize, kind: u32, place: usize)
     held + 1
 }
 
-// Clean bytes behind the first `used` of the text buffer, whose unused rest is lent to the copier.
-pub fn fill(draft: &[u8], from: usize, n: usize, text: &mut [u8], used: usize)
-    requires { ⌜ (used + n ≤ length (now text)) × (length (clean n (streamAt (now draft) from)) ≡ n) ⌝ }
+// Bytes of the draft as they are, to the front of a part.
+fn plain(draft: &[u8], from: usize, n: usize, out: &mut [u8])
+    requires { ⌜ (n ≤ length (drop from (now draft))) × (n ≤ length (now out)) ⌝ }
+    ensures { λ r. ⌜ now (out .exit) ≡ take n (drop from (now (draft .entry))) ++ drop n (now (out .entry)) ⌝ }
+{
+    let mut k = 0;
+    while k < n {
+        out[k] = draft[from + k];
+        k += 1;
+    }
+}
+
+// Clean bytes behind the first `used` of the text buffer, whose unused rest is lent to the copier. They take `raw` bytes of the draft: where these
+// are as many, they are the draft's own, and need no cleaning.
+pub fn fill(draft: &[u8], from: usize, n: usize, raw: usize, text: &mut [u8], used: usize)
+    requires { ⌜ (used + n ≤ length (now text)) × (length (clean n (streamAt (now draft) from)) ≡ n) × unchanged (now draft) from n raw ⌝ }
     ensures { λ r. ⌜ now (text .exit) ≡ take used (now (text .entry)) ++ (clean n (streamAt (now (draft .entry)) from) ++ drop (used + n) (now (text .entry))) ⌝ }
 {
-    copy(draft, from, n, &mut text[used..]);
+    if raw == n {
+        plain(draft, from, n, &mut text[used..]);
+    } else {
+        copy(draft, from, n, &mut text[used..]);
+    }
 }
 
 // An entity behind the first `held`, and its text and data behind the first `used` bytes.
@@ -62,9 +80,10 @@ pub fn full(
     text_len: usize,
     data_from: usize,
     data_len: usize,
+    raw: usize,
     count: u32,
 )
-    requires { ⌜ (1 ≤ kind) × (kind ≤ 17) × (held * 6 + 6 ≤ length (now list)) × (used + «text_len» + «data_len» ≤ length (now text)) × (place < 2 ^ 32) × (used < 2 ^ 32) × («text_len» < 2 ^ 32) × («data_len» < 2 ^ 32) × (length (clean «text_len» (streamAt (now draft) «text_from»)) ≡ «text_len») × (length (clean «data_len» (streamAt (now draft) «data_from»)) ≡ «data_len») ⌝ }
+    requires { ⌜ (1 ≤ kind) × (kind ≤ 17) × (held * 6 + 6 ≤ length (now list)) × (used + «text_len» + «data_len» ≤ length (now text)) × (place < 2 ^ 32) × (used < 2 ^ 32) × («text_len» < 2 ^ 32) × («data_len» < 2 ^ 32) × (length (clean «text_len» (streamAt (now draft) «text_from»)) ≡ «text_len») × (length (clean «data_len» (streamAt (now draft) «data_from»)) ≡ «data_len») × unchanged (now draft) «text_from» «text_len» «text_len» × unchanged (now draft) «data_from» «data_len» raw ⌝ }
     ensures { λ r. ⌜ (now (list .exit) ≡ written (now (list .entry)) held used (filled (now (draft .entry)) kind place «text_from» «text_len» «data_from» «data_len» count ∷ [])) × (now (text .exit) ≡ textWritten (now (text .entry)) used (filled (now (draft .entry)) kind place «text_from» «text_len» «data_from» «data_len» count ∷ [])) ⌝ }
 {
     row(
@@ -77,6 +96,6 @@ pub fn full(
         data_len as u32,
         count,
     );
-    fill(draft, text_from, text_len, text, used);
-    fill(draft, data_from, data_len, text, used + text_len);
+    fill(draft, text_from, text_len, text_len, text, used);
+    fill(draft, data_from, data_len, raw, text, used + text_len);
 }

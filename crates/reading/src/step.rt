@@ -4,7 +4,7 @@ ghost use Prim.Native.Nat.{ℕ, _+_, _-_, _*_, _<_, _≤_, _/_, _^_};
 ghost use lib.ListN.{length, getD};
 ghost use Rattle.reading.specs.Entity.{sizes};
 ghost use Rattle.reading.specs.Judging.{meaning, kinds-fine, bares, tokenEntities, written, textWritten, cutFrom, cutLength, one as oneOf, madeCount, madeSize, shortOf};
-ghost use Rattle.reading.specs.Stepping.{Contents, Ready, openGroups, readerOf, roomLeft, agrees, shows, sorted, judgesAs, judgedAs, closingAs, inserted};
+ghost use Rattle.reading.specs.Stepping.{Contents, Ready, unchanged, openGroups, readerOf, roomLeft, agrees, shows, sorted, judgesAs, judgedAs, closingAs, inserted};
 ghost use Rattle.reading.specs.Making.{fitted, handled};
 ghost use Rattle.chars.specs.Limits.{limits as base};
 ghost use mathlib.Core.List.{List};
@@ -124,8 +124,9 @@ fn write(
     prefix: usize,
     from: usize,
     data: usize,
+    raw: usize,
 ) -> usize
-    requires { ⌜ (lead ≤ 17) × (m .first ≤ 17) × (m .last ≤ 17) × (6 * (held + length (tokenEntities (now draft) lead m place prefix from «data»)) ≤ length (now list)) × (used + sizes (tokenEntities (now draft) lead m place prefix from «data») ≤ length (now text)) × (place < 2 ^ 32) × (used < 2 ^ 32) × (prefix < 2 ^ 32) × («data» < 2 ^ 32) × Contents (now draft) place prefix from «data» ⌝ }
+    requires { ⌜ (lead ≤ 17) × (m .first ≤ 17) × (m .last ≤ 17) × (6 * (held + length (tokenEntities (now draft) lead m place prefix from «data»)) ≤ length (now list)) × (used + sizes (tokenEntities (now draft) lead m place prefix from «data») ≤ length (now text)) × (place < 2 ^ 32) × (used < 2 ^ 32) × (prefix < 2 ^ 32) × («data» < 2 ^ 32) × Contents (now draft) place prefix from «data» × unchanged (now draft) from «data» raw ⌝ }
     ensures { λ r. ⌜ (r ≡ held + length (tokenEntities (now (draft .entry)) lead m place prefix from «data»)) × (now (list .exit) ≡ written (now (list .entry)) held used (tokenEntities (now (draft .entry)) lead m place prefix from «data»)) × (now (text .exit) ≡ textWritten (now (text .entry)) used (tokenEntities (now (draft .entry)) lead m place prefix from «data»)) ⌝ }
 {
     let one = bare(list, held, used, lead, place);
@@ -151,6 +152,7 @@ fn write(
         size,
         from,
         data,
+        raw,
         count,
     );
     two + 1
@@ -185,8 +187,9 @@ fn settle(
     prefix: usize,
     from: usize,
     data: usize,
+    raw: usize,
 ) -> Step
-    requires { ⌜ (lead ≤ 17) × kinds-fine (Verdict.Makes m) (s .depth) × (place < 16384) × (prefix ≤ 4096) × («data» ≤ 4096) × Contents (now draft) place prefix from «data» × Ready s (now list) (now text) (now groups) place ⌝ }
+    requires { ⌜ (lead ≤ 17) × kinds-fine (Verdict.Makes m) (s .depth) × (place < 16384) × (prefix ≤ 4096) × («data» ≤ 4096) × Contents (now draft) place prefix from «data» × Ready s (now list) (now text) (now groups) place × unchanged (now draft) from «data» raw ⌝ }
     ensures { λ r. ⌜ agrees (fitted (roomLeft s (now (list .entry)) (now (text .entry))) (bares lead place) (meaning (Verdict.Makes m) place (clean prefix (streamAt (now (draft .entry)) place)) (clean «data» (streamAt (now (draft .entry)) from)) (openGroups (now (groups .entry)) (s .depth)))) r s (now (list .entry)) (now (text .entry)) (now (list .exit)) (now (text .exit)) (now (groups .exit)) place ⌝ }
 {
     let entities = s.entities;
@@ -210,6 +213,7 @@ fn settle(
         prefix,
         from,
         data,
+        raw,
     );
     let bytes = size(m, prefix, data);
     let how = m.groups;
@@ -240,8 +244,9 @@ fn decide(
     prefix: usize,
     from: usize,
     data: usize,
+    raw: usize,
 ) -> Step
-    requires { ⌜ (lead ≤ 17) × shows sort c (clean prefix (streamAt (now draft) place)) (clean «data» (streamAt (now draft) from)) × (place < 16384) × (prefix ≤ 4096) × («data» ≤ 4096) × Contents (now draft) place prefix from «data» × Ready s (now list) (now text) (now groups) place ⌝ }
+    requires { ⌜ (lead ≤ 17) × shows sort c (clean prefix (streamAt (now draft) place)) (clean «data» (streamAt (now draft) from)) × (place < 16384) × (prefix ≤ 4096) × («data» ≤ 4096) × Contents (now draft) place prefix from «data» × Ready s (now list) (now text) (now groups) place × unchanged (now draft) from «data» raw ⌝ }
     ensures { λ r. ⌜ agrees (fitted (roomLeft s (now (list .entry)) (now (text .entry))) (bares lead place) (judgedAs sort (readerOf s (now (groups .entry))) place (clean prefix (streamAt (now (draft .entry)) place)) (clean «data» (streamAt (now (draft .entry)) from)))) r s (now (list .entry)) (now (text .entry)) (now (list .exit)) (now (text .exit)) (now (groups .exit)) place ⌝ }
 {
     let depth = s.depth;
@@ -263,6 +268,7 @@ fn decide(
             prefix,
             from,
             data,
+            raw,
         ),
     }
 }
@@ -293,8 +299,9 @@ fn insert(
     prefix: usize,
     from: usize,
     data: usize,
+    raw: usize,
 ) -> Step
-    requires { ⌜ shows sort c (clean prefix (streamAt (now draft) place)) (clean «data» (streamAt (now draft) from)) × (place < 16384) × (prefix ≤ 4096) × («data» ≤ 4096) × Contents (now draft) place prefix from «data» × Ready s (now list) (now text) (now groups) place ⌝ }
+    requires { ⌜ shows sort c (clean prefix (streamAt (now draft) place)) (clean «data» (streamAt (now draft) from)) × (place < 16384) × (prefix ≤ 4096) × («data» ≤ 4096) × Contents (now draft) place prefix from «data» × Ready s (now list) (now text) (now groups) place × unchanged (now draft) from «data» raw ⌝ }
     ensures { λ r. ⌜ agrees (inserted (roomLeft s (now (list .entry)) (now (text .entry))) (openGroups (now (groups .entry)) (s .depth)) place (λ q. judgedAs sort q place (clean prefix (streamAt (now (draft .entry)) place)) (clean «data» (streamAt (now (draft .entry)) from)))) r s (now (list .entry)) (now (text .entry)) (now (list .exit)) (now (text .exit)) (now (groups .exit)) place ⌝ }
 {
     let depth = s.depth;
@@ -328,6 +335,7 @@ fn insert(
         prefix,
         from,
         data,
+        raw,
     )
 }
 
@@ -343,12 +351,14 @@ pub fn take(
     prefix: usize,
     from: usize,
     data: usize,
+    after: usize,
 ) -> Step
-    requires { ⌜ sorted sort prefix «data» × (place < 16384) × (prefix ≤ 4096) × («data» ≤ 4096) × Contents (now draft) place prefix from «data» × Ready s (now list) (now text) (now groups) place ⌝ }
+    requires { ⌜ sorted sort prefix «data» × (place < 16384) × (prefix ≤ 4096) × («data» ≤ 4096) × Contents (now draft) place prefix from «data» × Ready s (now list) (now text) (now groups) place × (from < after) × unchanged (now draft) from «data» (after - from - 1) ⌝ }
     ensures { λ r. ⌜ agrees (handled base (roomLeft s (now (list .entry)) (now (text .entry))) (readerOf s (now (groups .entry))) (closingAs sort (clean prefix (streamAt (now (draft .entry)) place))) place (λ q. judgedAs sort q place (clean prefix (streamAt (now (draft .entry)) place)) (clean «data» (streamAt (now (draft .entry)) from)))) r s (now (list .entry)) (now (text .entry)) (now (list .exit)) (now (text .exit)) (now (groups .exit)) place ⌝ }
 {
     let c = draft[place];
     let opened = s.opened;
+    let raw = after - from - 1;
     if inserts(opened, sort, c) {
         return insert(
             draft,
@@ -362,6 +372,7 @@ pub fn take(
             prefix,
             from,
             data,
+            raw,
         );
     }
     decide(
@@ -377,5 +388,6 @@ pub fn take(
         prefix,
         from,
         data,
+        raw,
     )
 }

@@ -22,7 +22,7 @@ take-requires : tie.Need-take-requires
 take-requires c κs =
     let a = c .before .before .before .before .before .before .before .before .before .before .args in
     let k = here (a .draft .now) (a .list .now) (a .text .now) (a .groups .now) (a .s) (a .at) (c .before .before .before .before .apart .result) (c .before .before .before .before .apart .ensures ∙ ap pieceOf (c .before .before .before .before .before .token-at .ensures)) (c .before .before .before .if1 .left) in
-    (k .sorts, omega (arith, k .on, k .there, c .before .before .before .before .before .before .before .before .before .before .pre .0), k .short, k .brief, k .contents, later _ _ _ _ _ _ (k .behind) (c .before .before .before .before .before .before .before .before .before .before .pre .1))
+    (k .sorts, omega (arith, k .on, k .there, c .before .before .before .before .before .before .before .before .before .before .pre .0), k .short, k .brief, k .contents, later _ _ _ _ _ _ (k .behind) (c .before .before .before .before .before .before .before .before .before .before .pre .1), k .opened, k .as-is)
 
 ended-requires : tie.Need-ended-requires
 ended-requires c κs = search needs

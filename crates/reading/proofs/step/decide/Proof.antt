@@ -21,7 +21,7 @@ enum-known-v-2 c = search needs
 settle-requires : tie.Need-settle-requires
 settle-requires c κs =
     let p = c .before .before .before .before .before .before .before .before .before .before .before .before .before .pre in
-    (p .0, rw (c .before .before .before .before .v2 .given .1) at (c .before .before .before .before .before .before .verdict .ensures .1), p .2, p .3, p .4, p .5, p .6)
+    (p .0, rw (c .before .before .before .before .v2 .given .1) at (c .before .before .before .before .before .before .verdict .ensures .1), p .2, p .3, p .4, p .5, p .6, p .7)
 
 same-length : tie.Need-same-length
 same-length c = search needs

@@ -18,8 +18,8 @@ returns-2 c = no-room (c .before .before .before .before .before .before .args .
 push-requires : tie.Need-push-requires
 push-requires c κs = search needs
 
-add-t19 : tie.Need-add-t19
-add-t19 c = search needs
+add-t20 : tie.Need-add-t20
+add-t20 c = search needs
 
 decide-requires : tie.Need-decide-requires
 decide-requires c κs =
@@ -32,6 +32,7 @@ decide-requires c κs =
       p .3,
       p .4,
       ready-within (c .before .before .before .before .before .before .before .before .before .before .before .before .before .args .s) (c .before .before .before .before .before .before .before .before .before .before .before .before .before .args .list .now) (c .before .before .before .before .before .before .before .before .before .before .before .before .before .args .text .now) (c .before .before .before .before .before .before .before .before .before .before .before .before .before .args .groups .now) (c .before .before .before .before .before .before .before .before .before .before .before .before .before .args .place) (c .before .before .before .before .before .before .before .before .before .before .before .before .before .args .sort) (c .before .before .before .before .before .before .before .before .before .before .before .before .before .args .c) (clean (c .before .before .before .before .before .before .before .before .before .before .before .before .before .args .prefix) (streamAt (c .before .before .before .before .before .before .before .before .before .before .before .before .before .args .draft .now) (c .before .before .before .before .before .before .before .before .before .before .before .before .before .args .place))) (clean (c .before .before .before .before .before .before .before .before .before .before .before .before .before .args .data) (streamAt (c .before .before .before .before .before .before .before .before .before .before .before .before .before .args .draft .now) (c .before .before .before .before .before .before .before .before .before .before .before .before .before .args .from))) (after .last .0) (omega (arith, c .before .before .before .before .before .before .before .before .if1 .left)) (p .5) (omega (arith, after .kept, p .5 .array)) (after .ensures),
+      p .6,
     )
 
 same-length : tie.Need-same-length
@@ -57,7 +58,7 @@ insert-spec =
     sub-room
     returns-2
     push-requires
-    add-t19
+    add-t20
     decide-requires
     same-length
     same-length-2

@@ -27,7 +27,7 @@ write-requires c κs =
     let p = c .before .before .before .before .before .before .before .before .pre in
     let fit = roomy (c .before .before .before .before .before .before .before .before .args .draft .now) (c .before .before .before .before .before .before .before .before .args .lead) (c .before .before .before .before .before .before .before .before .args .m) (c .before .before .before .before .before .before .before .before .args .place) (c .before .before .before .before .before .before .before .before .args .prefix) (c .before .before .before .before .before .before .before .before .args .from) (c .before .before .before .before .before .before .before .before .args .data) (c .before .before .before .before .before .before .before .before .pre .5) (c .before .before .before .before .before .before .before .before .args .s) (c .before .before .before .before .before .before .before .before .args .list .now) (c .before .before .before .before .before .before .before .before .args .text .now) (c .before .before .before .before .before .before .before .before .args .groups .now) (sym (c .before .before .before .shortage .ensures) ∙ c .before .before .if1 .left) (c .before .before .before .before .before .before .before .before .pre .6) in
     let ready = p .6 in
-    (p .0, p .1 .0, p .1 .1, fit .0, fit .1, omega (arith, p .2), omega (arith, ready .small, p .2), omega (arith, p .3), omega (arith, p .4), p .5)
+    (p .0, p .1 .0, p .1 .1, fit .0, fit .1, omega (arith, p .2), omega (arith, ready .small, p .2), omega (arith, p .3), omega (arith, p .4), p .5, p .7)
 
 size-requires : tie.Need-size-requires
 size-requires c κs = search needs
@@ -39,8 +39,8 @@ change-requires c κs =
     let ready = p .6 in
     (ready .deep, ready .array, p .1 .2, omega (arith, below-top _ _ (ready .numbers), p .2))
 
-add-t26 : tie.Need-add-t26
-add-t26 c =
+add-t27 : tie.Need-add-t27
+add-t27 c =
     let p = c .before .before .before .before .before .before .before .before .before .before .before .before .before .before .before .before .before .before .pre in
     let ready = p .6 in
     omega (arith, c .before .before .before .before .size .ensures, small-size (c .before .before .before .before .before .before .before .before .before .before .before .before .before .before .before .before .before .before .args .m) (c .before .before .before .before .before .before .before .before .before .before .before .before .before .before .before .before .before .before .args .prefix) (c .before .before .before .before .before .before .before .before .before .before .before .before .before .before .before .before .before .before .args .data), p .2, p .3, p .4, ready .small)
@@ -72,7 +72,7 @@ settle-spec =
     write-requires
     size-requires
     change-requires
-    add-t26
+    add-t27
     same-length
     same-length-2
     same-length-3

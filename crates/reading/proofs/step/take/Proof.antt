@@ -12,13 +12,19 @@ use Rattle.reading.proofs.step.take.Tie as tie
 shared-slice-read-c : tie.Need-shared-slice-read-c
 shared-slice-read-c c = search needs
 
+sub-raw : tie.Need-sub-raw
+sub-raw c = search needs
+
+sub-raw-2 : tie.Need-sub-raw-2
+sub-raw-2 c = search needs
+
 inserts-requires : tie.Need-inserts-requires
 inserts-requires c κs = search needs
 
 insert-requires : tie.Need-insert-requires
 insert-requires c κs =
     let p = c .before .before .before .before .before .before .before .before .before .before .pre in
-    (first-shown (c .before .before .before .before .before .before .before .before .before .before .args .draft .now) (c .before .before .before .before .before .before .before .before .before .before .args .place) (c .before .before .before .before .before .before .before .before .before .before .args .prefix) (c .before .before .before .before .before .before .before .before .before .before .args .from) (c .before .before .before .before .before .before .before .before .before .before .args .data) (c .before .before .before .before .before .before .before .before .before .before .args .sort) (c .before .before .before .before .before .before .before .before .before .before .pre .4) (c .before .before .before .before .before .before .before .before .before .before .pre .0), p .1, p .2, p .3, p .4, p .5)
+    (first-shown (c .before .before .before .before .before .before .before .before .before .before .args .draft .now) (c .before .before .before .before .before .before .before .before .before .before .args .place) (c .before .before .before .before .before .before .before .before .before .before .args .prefix) (c .before .before .before .before .before .before .before .before .before .before .args .from) (c .before .before .before .before .before .before .before .before .before .before .args .data) (c .before .before .before .before .before .before .before .before .before .before .args .sort) (c .before .before .before .before .before .before .before .before .before .before .pre .4) (c .before .before .before .before .before .before .before .before .before .before .pre .0), p .1, p .2, p .3, p .4, p .5, p .7)
 
 same-length : tie.Need-same-length
 same-length c = search needs
@@ -40,7 +46,7 @@ returns c =
 decide-requires : tie.Need-decide-requires
 decide-requires c κs =
     let p = c .before .before .before .before .before .before .before .before .before .before .pre in
-    (omega arith, first-shown (c .before .before .before .before .before .before .before .before .before .before .args .draft .now) (c .before .before .before .before .before .before .before .before .before .before .args .place) (c .before .before .before .before .before .before .before .before .before .before .args .prefix) (c .before .before .before .before .before .before .before .before .before .before .args .from) (c .before .before .before .before .before .before .before .before .before .before .args .data) (c .before .before .before .before .before .before .before .before .before .before .args .sort) (c .before .before .before .before .before .before .before .before .before .before .pre .4) (c .before .before .before .before .before .before .before .before .before .before .pre .0), p .1, p .2, p .3, p .4, p .5)
+    (omega arith, first-shown (c .before .before .before .before .before .before .before .before .before .before .args .draft .now) (c .before .before .before .before .before .before .before .before .before .before .args .place) (c .before .before .before .before .before .before .before .before .before .before .args .prefix) (c .before .before .before .before .before .before .before .before .before .before .args .from) (c .before .before .before .before .before .before .before .before .before .before .args .data) (c .before .before .before .before .before .before .before .before .before .before .args .sort) (c .before .before .before .before .before .before .before .before .before .before .pre .4) (c .before .before .before .before .before .before .before .before .before .before .pre .0), p .1, p .2, p .3, p .4, p .5, p .7)
 
 same-length-4 : tie.Need-same-length-4
 same-length-4 c = search needs
@@ -64,6 +70,8 @@ take-spec =
     tie.close
     (tie.spec
     shared-slice-read-c
+    sub-raw
+    sub-raw-2
     inserts-requires
     insert-requires
     same-length

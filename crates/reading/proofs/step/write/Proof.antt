@@ -7,7 +7,7 @@ use lib.ListN.{length}
 use Rattle.reading.specs.Entity.{size}
 use Rattle.reading.specs.Judging.{bares, filled, textWritten, cutFrom, cutLength}
 use Rattle.reading.proofs.Listing.{written-none, text-none}
-use Rattle.reading.proofs.Cutting.{parts, so-many, so-much, one-after-another, bare-text, no-last, last-one, last-many, last-much, cut-long, cut-fits}
+use Rattle.reading.proofs.Cutting.{parts, so-many, so-much, one-after-another, bare-text, no-last, last-one, last-many, last-much, cut-long, cut-raw, cut-fits}
 use borrow.Author.Needs.{needs}
 use Rattle.reading.proofs.step.write.Statement.{statement}
 use Rattle.reading.proofs.step.write.Tie as tie
@@ -75,6 +75,8 @@ full-requires c κs =
       p .8,
       rw (is-length, c .before .before .before .cut-from .ensures) (cut-long (a .draft .now) (a .place) (a .prefix) (a .from) (a .data) (p .9) (a .m .text)),
       p .9 .string-long,
+      λ h. rw (is-length, c .before .before .before .cut-from .ensures) (cut-raw (a .draft .now) (a .place) (a .prefix) (a .from) (a .data) (p .9) (a .m .text)),
+      p .10,
     )
 
 add-result : tie.Need-add-result
