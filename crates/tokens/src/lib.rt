@@ -428,6 +428,32 @@ pub fn token_at(draft: &[u8], at: usize) -> Token
     token_from(draft, i)
 }
 
+// The byte after the simple token that begins at a place, where it is one that US-ASCII ends and that is neither a single character of its own nor
+// begins with a bar; else 0, which says nothing of the token.
+pub fn word_end(draft: &[u8], at: usize) -> usize
+    ensures { λ r. ⌜ ((r ≡ 0 → ⊥) → (at < r) × (at < length (now (draft .entry))) × (tokenAt limits (now (draft .entry)) at ≡ Token.Simple at r (r - at))) ⌝ }
+{
+    if draft.len() <= at {
+        return 0;
+    }
+    let b = draft[at];
+    if class(b) != 4 {
+        return 0;
+    }
+    if b == b'|' {
+        return 0;
+    }
+    let end = until(draft.len(), at + 1, limits::TOKEN - 1);
+    let i = run(draft, at + 1, end, 3, 4);
+    if draft.len() <= i {
+        return 0;
+    }
+    if class(draft[i]) < 6 {
+        return 0;
+    }
+    i
+}
+
 // What the copier did.
 pub enum Copied {
     // So many clean bytes stand at the front of the part.
