@@ -32,15 +32,15 @@ copied-front draft from n before h long = rw (le-ltb (length before) n h, long)
 
 -- the part back in its place
 pub part-filled :
-    (draft : List ℕ) (from n : ℕ) (text : List ℕ) (used : ℕ) (part : List ℕ) → used + n ≤ length text
-    → part ≡ clean n (streamAt draft from) ++ drop n (take (length text - used) (drop used text))
-    → putMid used (length text - used) text part ≡ take used text ++ (clean n (streamAt draft from) ++ drop (used + n) text)
-part-filled draft from n text used part h is =
+    (new : List ℕ) (n : ℕ) (text : List ℕ) (used : ℕ) (part : List ℕ) → used + n ≤ length text
+    → part ≡ new ++ drop n (take (length text - used) (drop used text))
+    → putMid used (length text - used) text part ≡ take used text ++ (new ++ drop (used + n) text)
+part-filled new n text used part h is =
     let all : take (length text - used) (drop used text) ≡ drop used text =
     take-all (length text - used) (drop used text) (omega (arith, length-drop used text)) in
-    let new : part ≡ clean n (streamAt draft from) ++ drop (used + n) text = is ∙ rw (all, drop-drop) in
+    let whole : part ≡ new ++ drop (used + n) text = is ∙ rw (all, drop-drop) in
     let none : postOf used (length text - used) text ≡ [] = post-is used (length text) text (omega arith) ∙ drop-length text in
-    ap (λ l. take used text ++ l) (rw (none, append-nil) new)
+    ap (λ l. take used text ++ l) (rw (none, append-nil) whole)
 
 -- an entity's text, and then its data
 pub both-filled :

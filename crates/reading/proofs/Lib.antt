@@ -7,6 +7,7 @@ pub mod Cutting
 pub mod Shortages
 pub mod Settling
 pub mod Textless
+pub mod OneEntity
 pub mod BySort
 pub mod Deciding
 pub mod Walking

@@ -25,15 +25,15 @@ use Rattle.reading.proofs.Listing.{written-more, number-of-kind, writte
 use Rattle.reading.proofs.Cutting.{bare-first, bare-text}
 use Rattle.reading.proofs.Settling.{refused-as, roomy, allowed-as}
 
-one-of-none : one 0 ≡ 0
+pub one-of-none : one 0 ≡ 0
 unfolding one
 one-of-none = refl
 
-one-of-some : (kind : ℕ) → (kind ≡ 0 → ⊥) → one kind ≡ 1
+pub one-of-some : (kind : ℕ) → (kind ≡ 0 → ⊥) → one kind ≡ 1
 unfolding one
 one-of-some kind h = rw (ne-eqb kind 0 h)
 
-positive : (n : ℕ) → (n ≡ 0 → ⊥) → 1 ≤ n
+pub positive : (n : ℕ) → (n ≡ 0 → ⊥) → 1 ≤ n
 positive n h = omega (arith, h)
 
 pub bare-count : (kind place : ℕ) → length (bares kind place) ≡ one kind

@@ -105,6 +105,11 @@ unfoldable pub textless : Verdict → Type 0
 textless (Refuses n) = Unit {0}
 textless (Makes m) = (m .text ≡ 0) × (m .last ≡ 0 → ⊥)
 
+-- it makes one entity without a count, and leaves the open groups as they are
+unfoldable pub single : Verdict → Type 0
+single (Refuses n) = Unit {0}
+single (Makes m) = (m .first ≡ 0) × (m .last ≡ 0 → ⊥) × (m .count ≡ 0) × (m .groups ≡ 0)
+
 -- the list with entities written behind the first `k`, whose text begins at `t`, and past them as before
 unfoldable pub written : (before : List ℕ) → (k t : ℕ) → List Entity → List ℕ
 written before k t es = take (6 * k) before ++ (rows t es ++ drop (6 * (k + length es)) before)

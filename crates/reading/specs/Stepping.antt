@@ -83,6 +83,12 @@ pub record Steady (s : State) (list groups : List ℕ) (at : ℕ) : Type 0 where
   pub small : s .text ≤ 8192 * at
   pub numbers : below (openGroups groups (s .depth)) (at + 1)
 
+-- the same, but for the open groups
+pub record Spare (s : State) (list text : List ℕ) (at : ℕ) : Type 0 where
+  pub held : 6 * s .entities ≤ length list
+  pub used : s .text ≤ length text
+  pub small : s .text ≤ 8192 * at
+
 -- What one token did, against what Making says of it: the same refusal and nothing written, or the same entities written, the same room left and
 -- the same left open.
 unfoldable pub agrees :

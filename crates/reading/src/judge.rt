@@ -9,7 +9,7 @@ ghost use Rattle.chars.specs.Limits.{limits as base};
 ghost use Rattle.tokens.specs.Tokens.{simple as simpleSort};
 ghost use Rattle.tokens.specs.Runs.{sortOf};
 ghost use Rattle.reading.specs.Making.{judged, judged-last, within-groups, group-begins, group-ends, element-ends, array-ends, adds, word as wordOf};
-ghost use Rattle.reading.specs.Judging.{meaning, judges, kinds-fine, textless};
+ghost use Rattle.reading.specs.Judging.{meaning, judges, kinds-fine, textless, single};
 use chars::limits;
 
 // The entities of a token, and what is open behind it.
@@ -119,8 +119,8 @@ fn is_number(c: u8) -> bool
 }
 
 // Any other simple token in regular mode, by its first byte.
-fn word(c: u8, opened: bool) -> Verdict
-    ensures { λ r. ⌜ ((place : ℕ) (text groups : List ℕ) → getD text 0 0 ≡ c → meaning r place text [] groups ≡ adds (record { metacommand = false; opened = opened; groups = groups }) (wordOf place text)) × ((depth : ℕ) → kinds-fine r depth) ⌝ }
+pub fn word(c: u8, opened: bool) -> Verdict
+    ensures { λ r. ⌜ ((place : ℕ) (text groups : List ℕ) → getD text 0 0 ≡ c → meaning r place text [] groups ≡ adds (record { metacommand = false; opened = opened; groups = groups }) (wordOf place text)) × ((depth : ℕ) → kinds-fine r depth) × single r ⌝ }
 {
     if is_number(c) {
         return makes(0, 9, 0, 1, 0, false, opened);

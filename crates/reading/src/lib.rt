@@ -12,6 +12,7 @@ mod judge;
 mod round;
 mod rows;
 mod step;
+mod words;
 
 use chars::limits;
 use round::Round;

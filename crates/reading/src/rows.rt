@@ -54,6 +54,14 @@ fn plain(draft: &[u8], from: usize, n: usize, out: &mut [u8])
     }
 }
 
+// The same behind the first `used` bytes of the text buffer, whose unused rest is lent on.
+pub fn as_it_stands(draft: &[u8], from: usize, n: usize, text: &mut [u8], used: usize)
+    requires { ⌜ (used + n ≤ length (now text)) × (n ≤ length (drop from (now draft))) ⌝ }
+    ensures { λ r. ⌜ now (text .exit) ≡ take used (now (text .entry)) ++ (take n (drop from (now (draft .entry))) ++ drop (used + n) (now (text .entry))) ⌝ }
+{
+    plain(draft, from, n, &mut text[used..]);
+}
+
 // Clean bytes behind the first `used` of the text buffer, whose unused rest is lent to the copier. They take `raw` bytes of the draft: where these
 // are as many, they are the draft's own, and need no cleaning.
 pub fn fill(draft: &[u8], from: usize, n: usize, raw: usize, text: &mut [u8], used: usize)
@@ -61,7 +69,7 @@ pub fn fill(draft: &[u8], from: usize, n: usize, raw: usize, text: &mut [u8], us
     ensures { λ r. ⌜ now (text .exit) ≡ take used (now (text .entry)) ++ (clean n (streamAt (now (draft .entry)) from) ++ drop (used + n) (now (text .entry))) ⌝ }
 {
     if raw == n {
-        plain(draft, from, n, &mut text[used..]);
+        as_it_stands(draft, from, n, text, used);
     } else {
         copy(draft, from, n, &mut text[used..]);
     }

@@ -38,7 +38,7 @@ pub enum Step {
 }
 
 // Where the text of an entity begins in the draft.
-fn cut_from(how: u32, place: usize) -> usize
+pub fn cut_from(how: u32, place: usize) -> usize
     requires { ⌜ place < 2 ^ 32 ⌝ }
     ensures { λ r. ⌜ r ≡ cutFrom how place ⌝ }
 {
@@ -52,7 +52,7 @@ fn cut_from(how: u32, place: usize) -> usize
 }
 
 // How many bytes it has.
-fn cut_length(how: u32, prefix: usize) -> usize
+pub fn cut_length(how: u32, prefix: usize) -> usize
     ensures { λ r. ⌜ r ≡ cutLength how prefix ⌝ }
 {
     if how == 0 {

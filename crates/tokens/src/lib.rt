@@ -431,7 +431,7 @@ pub fn token_at(draft: &[u8], at: usize) -> Token
 // The byte after the simple token that begins at a place, where it is one that US-ASCII ends and that is neither a single character of its own nor
 // begins with a bar; else 0, which says nothing of the token.
 pub fn word_end(draft: &[u8], at: usize) -> usize
-    ensures { λ r. ⌜ ((r ≡ 0 → ⊥) → (at < r) × (at < length (now (draft .entry))) × (tokenAt limits (now (draft .entry)) at ≡ Token.Simple at r (r - at))) ⌝ }
+    ensures { λ r. ⌜ ((r ≡ 0 → ⊥) → (at < r) × (at < length (now (draft .entry))) × (tokenAt limits (now (draft .entry)) at ≡ Token.Simple at r (r - at)) × (classOf (getD (now (draft .entry)) at 0) ≡ 4)) ⌝ }
 {
     if draft.len() <= at {
         return 0;

@@ -74,9 +74,10 @@ returns-6 c =
       ran .on,
       omega arith,
       starts.worded limits draft (a .at) b (a .at + 1) (alone-at draft (a .at) (omega arith) (omega arith)) (p .no-white) (p .no-remark) (p .is-visible)
-      (p .no-inclusive) (p .no-atomic) (ne-eqb b 0x7C (c .before .before .before .before .before .before .if3 .left))
-      ∙ (ap first (ran .same)
-      ∙ ended limits draft (a .at) i e (i + 1) (i - a .at) (alone-at draft i (omega arith) (omega arith)) (x .is-legal) (x .is-exclusive)),
+          (p .no-inclusive) (p .no-atomic) (ne-eqb b 0x7C (c .before .before .before .before .before .before .if3 .left))
+          ∙ (ap first (ran .same)
+          ∙ ended limits draft (a .at) i e (i + 1) (i - a .at) (alone-at draft i (omega arith) (omega arith)) (x .is-legal) (x .is-exclusive)),
+      first-class,
     )
 
 pub word-end-spec : {M : Type 1} → statement M
