@@ -1,9 +1,9 @@
 -- A space is passed over, and one of the bytes of groups and arrays is a token by itself: what the definition reads at such a byte is known without
 -- looking further.
 use mathlib.Core.Path.{_≡_, refl, sym, _∙_, ap}
-use mathlib.Core.Bool.{Bool, true, false, not, _&&_, _||_}
+use mathlib.Core.Bool.{Bool, true, false, not, _&&_, _||_, true≢false}
 use mathlib.Core.List.{List, []}
-use Prim.Native.Nat.{ℕ, suc, _+_, _<_, _≤_}
+use Prim.Native.Nat.{ℕ, _+_, _-_, _<_, _≤_}
 use native.Mathlib.Omega.{arith}
 use native.Mathlib.Numerals.{add-one}
 use lib.Dec.{leb, eqb}
@@ -19,22 +19,24 @@ use Rattle.tokens.specs.Sorts.{visible, white, atomic, inclusive, exclusive, le
 use Rattle.tokens.specs.Runs.{classOf}
 use Rattle.tokens.specs.Tokens.{tokens, between, step, begins, follows, tokenAt}
 use Rattle.tokens.specs.declared.Token.the-variants.{Simple}
+use Rattle.tokens.proofs.Classes.{plain}
 use Rattle.tokens.proofs.Copying.{clean-zero}
 use Rattle.tokens.proofs.Skipping.{alone-at}
 use Rattle.tokens.proofs.Starts.{alone}
 use Rattle.reading.specs.Entity.{sizes}
-use Rattle.reading.specs.Making.{fitted}
+use Rattle.reading.specs.Making.{fitted, adds, word, regular, judged}
 use Rattle.reading.specs.Judging.{bares}
 use Rattle.reading.specs.Reading.{before, entities}
-use Rattle.reading.specs.Stepping.{Ready, Steady, roomLeft, readerOf, agrees, judgedAs, closingAs, pieceOf, ahead}
+use Rattle.reading.specs.Stepping.{Contents, Ready, Steady, Spare, openGroups, roomLeft, readerOf, agrees, judgedAs, closingAs, pieceOf, ahead}
 use Rattle.reading.specs.Rounds.{isAtom, behindOf, goesRound}
+use Rattle.reading.specs.declared.Piece.{Piece}
 use Rattle.reading.specs.declared.step.State.{State}
 use Rattle.reading.specs.declared.step.Step.{Step}
 use Rattle.reading.specs.declared.round.Round.the-variants.{On, Over}
 use Rattle.reading.proofs.Listing.{written-none, text-none}
 use Rattle.reading.proofs.Cutting.{first-byte}
 use Rattle.reading.proofs.Deciding.{by-itself}
-use Rattle.reading.proofs.Walking.{later, behind-here, here}
+use Rattle.reading.proofs.Walking.{Taken, later, behind-here, here}
 
 -- what each of the bytes is
 test : ℕ → Bool
@@ -111,6 +113,65 @@ module _ (draft list text groups : List ℕ) (s : State) (at : ℕ) (there : at 
       l
       refl
       (λ e. omega arith)
+
+-- The byte that a word begins with is none of those that regular mode tells apart.
+other : (b k : ℕ) → classOf b ≡ 4 → atomic k ≡ true → eqb b k ≡ false
+other b k is a =
+    either (eqb b k)
+    (λ t. absurd (true≢false (sym a ∙ (ap atomic (sym (eqb-true b k t)) ∙ plain b (omega arith) (omega arith) .no-atomic))))
+    (λ t. t)
+
+judged-word :
+    (s : State) (groups : List ℕ) (place : ℕ) (T : List ℕ) (b : ℕ) → getD T 0 0 ≡ b → classOf b ≡ 4 → s .metacommand ≡ false → s .opened ≡ false
+    → judgedAs 0 (readerOf s groups) place T []
+    ≡ adds (record { metacommand = false; opened = false; groups = openGroups groups (s .depth) }) (word place T)
+unfolding judgedAs judged regular readerOf atomic
+judged-word s groups place T b e is m o =
+    rw (m, o, e, other b 0x25 is refl, other b 0x3B is refl, other b 0x28 is refl, other b 0x29 is refl, other b 0x5B is refl, other b 0x2C is refl, other b 0x5D is refl)
+
+module _ (draft list text groups : List ℕ) (s : State) (at end : ℕ) (is : tokenAt limits draft at ≡ Simple at end (end - at)) where
+  abbrev f : Piece
+  f = pieceOf (Simple at end (end - at))
+
+  same : f ≡ pieceOf (tokenAt limits draft at)
+  same = ap pieceOf (sym is)
+
+  some : f .sort ≡ 4 → ⊥
+  unfolding pieceOf
+  some e = omega arith
+
+  pub word-here : Taken draft at f (tokens limits between (streamAt draft at))
+  word-here = here draft list text groups s at f same some
+
+  pub word-contents : Contents draft at (end - at) 0 0
+  unfolding pieceOf
+  word-contents = word-here .contents
+
+  pub word-short : end - at ≤ 4096
+  unfolding pieceOf
+  word-short = word-here .short
+
+  -- what a word came to
+  pub word-on :
+      at < end → classOf (getD draft at 0) ≡ 4 → s .metacommand ≡ false → s .opened ≡ false → (r : Step) (list′ text′ : List ℕ)
+      → (getD (clean (end - at) (streamAt draft at)) 0 0 ≡ getD draft at 0
+      → agrees (fitted (roomLeft s list text) (bares 0 at)
+      (adds (record { metacommand = false; opened = false; groups = openGroups groups (s .depth) }) (word at (clean (end - at) (streamAt draft at))))) r s list text
+      list′ text′ groups at)
+      → length list′ ≡ length list → length text′ ≡ length text → goesRound draft list text groups s at (behindOf r s at end) list′ text′ groups
+  unfolding pieceOf
+  word-on on four regularly unopened r list′ text′ a l u =
+      let T = clean (end - at) (streamAt draft at) in
+      let first = ap (λ l. getD l 0 0) (first-byte draft at (end - at) 0 0 (word-here .contents) (omega arith)) in
+      behind-here draft list text groups s at f same some list′ text′ groups r
+      (by-itself s list text groups at 0 (getD draft at 0) T (clean 0 (streamAt draft 0)) r list′ text′ groups (rw unopened)
+      (rw (clean-zero (streamAt draft 0), judged-word s groups at T (getD draft at 0) first four regularly unopened) (a first)))
+      l
+      u
+      (λ e. omega arith)
+
+pub spare : (s : State) (list text groups : List ℕ) (at : ℕ) → Ready s list text groups at → Spare s list text at
+spare s list text groups at ready = record { held = ready .held; used = ready .used; small = ready .small }
 
 pub steady : (s : State) (list text groups : List ℕ) (at : ℕ) → Ready s list text groups at → Steady s list groups at
 steady s list text groups at ready =

@@ -11,6 +11,7 @@ use crate::atoms::is_atom;
 use crate::step::State;
 use crate::step::Step;
 use crate::step::take;
+use crate::words::hold_word;
 
 // What a round comes to.
 pub enum Round {
@@ -118,7 +119,7 @@ fn any(
     behind(done, s, place, after)
 }
 
-// The next round. A space, and the bytes of groups and arrays, are taken as they stand.
+// The next round. A space, the bytes of groups and arrays, and words are taken as they stand.
 pub fn go_round(
     draft: &[u8],
     list: &mut [u32],
@@ -142,6 +143,11 @@ pub fn go_round(
             if is_atom(b) {
                 let step = atom(list, groups, s, b, at);
                 return behind(step, s, at, at + 1);
+            }
+            let end = tokens::word_end(draft, at);
+            if end != 0 {
+                let step = hold_word(draft, list, text, s, b, at, end - at);
+                return behind(step, s, at, end);
             }
         }
     }

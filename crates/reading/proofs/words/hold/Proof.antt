@@ -59,8 +59,7 @@ as-it-stands-requires c κs =
     let size = cutLength (a .m .text) (a .length) in
     let from = cutFrom (a .m .text) (a .place) in
     let raw = ap length (cut-raw (a .draft .now) (a .place) (a .length) 0 0 (p .4) (a .m .text)) in
-    let long = cut-long (a .draft .now) (a .place) (a .length) 0 0 (p .4) (a .m .text) in
-    (
+    let long = cut-long (a .draft .now) (a .place) (a .length) 0 0 (p .4) (a .m .text) in (
       omega (arith, c .before .before .before .before .before .if2 .left, p .5 .used),
       rw (c .before .before .before .before .before .before .before .cut-length .ensures, c .before .before .before .before .before .before .before .before .cut-from .ensures) (omega (arith, raw, long, length-take size (drop from (a .draft .now)))),
     )
