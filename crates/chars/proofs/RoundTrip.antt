@@ -110,7 +110,7 @@ first-byte n rest p r =
     (λ g. rw (encoded-four n g) (omega arith, λ e. omega arith, λ e. omega arith))
 
 -- a number that is neither nul, CR nor a surrogate is a character where it is re-encoded
-stands :
+pub stands :
     (n : ℕ) → n < 0x110000 → 0 < n → (n ≡ 0x0D → ⊥) → (0xD800 ≤ n → n ≤ 0xDFFF → ⊥) → (rest : List ℕ) (at : ℕ)
     → character (encoded n ++ rest) at ≡ Clean n (at + length (encoded n))
 stands n small no-nul no-return no-surrogate rest at =

@@ -4,6 +4,7 @@ pub mod Arms
 pub mod Passing
 pub mod Classes
 pub mod Skipping
+pub mod Standing
 pub mod Strings
 pub mod Words
 pub mod Starts

@@ -8,16 +8,18 @@ ghost use lib.ListN.{length, getD, drop};
 ghost use Rattle.chars.specs.Limits.{limits};
 ghost use Rattle.chars.specs.Stream.{streamAt};
 ghost use Rattle.tokens.specs.Tokens.{Opened, between, bar as barAt, word as wordAt, string as stringOf, tokens, first, shown, closed as closedBy, opens, follows, nested, down, tokenAt};
-ghost use Rattle.tokens.specs.Runs.{classOf, run as runOf, pastBlanks, pastComment, pastAll, sortOf, openedAs, refusalOf, ordinaryEnd};
+ghost use Rattle.tokens.specs.Runs.{classOf, run as runOf, pastBlanks, pastComment, pastAll, sortOf, openedAs, refusalOf, Data};
 
 mod byte;
 pub mod copier;
+mod sequence;
 
 use byte::class;
 use byte::run;
 use byte::until;
 use chars::Character;
 use chars::limits;
+use sequence::wide;
 
 // What the characters from a place of a draft on come to first. A place is a token's first byte.
 pub enum Token {
@@ -209,16 +211,35 @@ fn closed(
     }
 }
 
-// From `at` on, behind `n` clean bytes of string data, where bytes that are plain data end; behind an odd run of backslashes at once.
+// Where plain string data that begins at `at` ends: a run of US-ASCII, or one character above it. `at` where none begins.
+fn plain(draft: &[u8], at: usize, end: usize) -> usize
+    requires { ⌜ (at < end) × (end ≤ length (now draft)) ⌝ }
+    ensures { λ r. ⌜ Data (now (draft .entry)) false at end r ⌝ }
+{
+    if draft[at] < 0x80 {
+        return run(draft, at, end, 4, 9);
+    }
+    at + wide(draft, at, end)
+}
+
+// From `at` on, behind `n` clean bytes of string data, where plain data ends, as far as the limit goes; behind an odd run of backslashes at once.
 fn ordinary(draft: &[u8], at: usize, n: usize, odd: bool) -> usize
     requires { ⌜ (at ≤ length (now draft)) × (n ≤ 4096) ⌝ }
-    ensures { λ r. ⌜ r ≡ ordinaryEnd (now (draft .entry)) at n odd ⌝ }
+    ensures { λ r. ⌜ Data (now (draft .entry)) odd at (min (length (now (draft .entry))) (at + (limits .string - n))) r ⌝ }
 {
     if odd {
         return at;
     }
     let end = until(draft.len(), at, limits::STRING - n);
-    run(draft, at, end, 4, 9)
+    let mut i = at;
+    while i < end {
+        let past = plain(draft, i, end);
+        if past == i {
+            return i;
+        }
+        i = past;
+    }
+    i
 }
 
 // A string whose data begins at `from`.

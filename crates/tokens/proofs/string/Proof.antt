@@ -29,13 +29,13 @@ Inv-loop draft curly place prefix from i₀ n₀ level₀ odd₀ i n level odd =
 abbrev μ-loop : tie.MeasureT-loop
 μ-loop draft curly place prefix from i₀ n₀ level₀ odd₀ i n level odd = length draft - i
 
--- what is known behind a run of plain data
+-- what is known behind plain data
 behind :
     (c : tie.After-ordinary Inv-loop μ-loop)
     → Ordinarily (c .before .before .before .args .draft .now) (c .before .loop .i) (c .before .loop .n) (c .before .loop .odd) (c .ordinary .result)
 behind c =
     let l = c .before .loop in
-    rw (c .ordinary .ensures) (ordinarily (c .before .before .before .args .draft .now) (l .i) (l .n) (l .odd) (l .inv .1) (l .inv .2))
+    ordinarily (c .before .before .before .args .draft .now) (l .i) (l .n) (l .odd) (c .ordinary .result) (l .inv .2) (c .ordinary .ensures)
 
 loop-holds : tie.Need-loop-holds Inv-loop μ-loop
 loop-holds c = (refl, c .before .pre, omega arith, omega arith, omega arith)

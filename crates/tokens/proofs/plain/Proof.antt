@@ -1,0 +1,36 @@
+-- `tokens::plain` meets its contract: a run of bytes is plain data, and so is one character above US-ASCII, or nothing. Assumes nothing.
+use native.Mathlib.Omega.{arith}
+use borrow.Author.Needs.{needs}
+use Rattle.tokens.specs.Runs.{Data}
+use Rattle.tokens.proofs.Strings.{run-passed, perhaps-wide}
+use Rattle.tokens.proofs.plain.Statement.{statement}
+use Rattle.tokens.proofs.plain.Tie as tie
+
+shared-slice-read-if1 : tie.Need-shared-slice-read-if1
+shared-slice-read-if1 c = search needs
+
+run-requires : tie.Need-run-requires
+run-requires c κs = search needs
+
+returns : tie.Need-returns
+returns c =
+    let a = c .before .before .before .before .args in
+    rw (c .run .ensures) (run-passed (a .draft .now) (a .at) (a .end) (omega arith) (omega arith))
+
+wide-requires : tie.Need-wide-requires
+wide-requires c κs = search needs
+
+add-result : tie.Need-add-result
+add-result c =
+    let a = c .before .before .before .before .args in
+    omega (arith, perhaps-wide (a .draft .now) (a .at) (a .end) (c .wide .result) (omega arith) (omega arith) (c .wide .ensures) .there)
+
+returns-2 : tie.Need-returns-2
+returns-2 c =
+    let a = c .before .before .before .before .args in
+    perhaps-wide (a .draft .now) (a .at) (a .end) (c .wide .result) (omega arith) (omega arith) (c .wide .ensures)
+
+pub plain-spec : {M : Type 1} → statement M
+plain-spec =
+    tie.close
+    (tie.spec shared-slice-read-if1 run-requires returns wide-requires add-result returns-2)
