@@ -87,18 +87,18 @@ module _ (low high : ℕ) (draft : List ℕ) where
       let t : within low high (class-at draft i) ≡ true = simp (le-leb low (class-at draft i) a, le-leb (class-at draft i) high b) in
       rw (less, add-one, inside (end - suc i) i (omega arith) t, add-suc, suc-add)
 
+  pub halted :
+      (i end : ℕ) → i < length draft → within low high (class-at draft i) ≡ false → i ≡ i + run low high (end - i) (drop i draft)
+  halted i end h t = rw (outside (end - i) i h t, add-zero)
+
   pub halted-below :
       (i end : ℕ) → i < length draft → class-at draft i < low → i ≡ i + run low high (end - i) (drop i draft)
-  halted-below i end h a =
-      let t : within low high (class-at draft i) ≡ false = simp (lt-leb low (class-at draft i) a) in
-      rw (outside (end - i) i h t, add-zero)
+  halted-below i end h a = halted i end h (simp (lt-leb low (class-at draft i) a))
 
   pub halted-above :
       (i end : ℕ) → i < length draft → low ≤ class-at draft i → high < class-at draft i
       → i ≡ i + run low high (end - i) (drop i draft)
-  halted-above i end h a b =
-      let t : within low high (class-at draft i) ≡ false = simp (le-leb low (class-at draft i) a, lt-leb (class-at draft i) high b) in
-      rw (outside (end - i) i h t, add-zero)
+  halted-above i end h a b = halted i end h (simp (le-leb low (class-at draft i) a, lt-leb (class-at draft i) high b))
 
   pub finished : (i end : ℕ) → end ≤ i → i ≡ i + run low high (end - i) (drop i draft)
   unfolding run

@@ -1,11 +1,13 @@
 -- A fact about every byte: antt computes one test over all of them, and these laws turn the test into the fact at each.
 use mathlib.Core.Path.{_≡_, _∙_, ap}
 use mathlib.Core.Bool.{Bool, true, false, not, _&&_, _||_, false≢true}
-use Prim.Native.Nat.{ℕ, zero, suc, _<_}
+use Prim.Native.Nat.{ℕ, zero, suc, _<_, _≤_}
 use native.Mathlib.Omega.{arith}
-use lib.Dec.{eqb}
-use borrow.Author.Tests.{eqb-true, eqb-false}
+use lib.Dec.{leb, ltb, eqb}
+use borrow.Author.Tests.{eqb-true, eqb-false, le-leb, lt-ltb}
+use Rattle.chars.specs.Choice.{within}
 use Rattle.chars.proofs.Cases.{both, either}
+use Rattle.chars.proofs.Extent.{within-true}
 
 -- the test passes at every number below `n`
 abbrev pub below : (ℕ → Bool) → ℕ → Bool
@@ -32,3 +34,12 @@ so false t e p = absurd (false≢true p)
 pub constant :
     (f : ℕ → ℕ) (v : ℕ) (s : ℕ → Bool) → below (λ k. if-then (s k) (eqb v (f k))) 256 ≡ true → (b : ℕ) → b < 256 → s b ≡ true → v ≡ f b
 constant f v s t b h p = eqb-true v (f b) (so (s b) (eqb v (f b)) (holds (λ k. if-then (s k) (eqb v (f k))) 256 t b h) p)
+
+-- a function is from `low` to `high` at every byte from `first` up to `past`
+pub ranged :
+    (f : ℕ → ℕ) (first past low high : ℕ) → below (λ k. if-then (leb first k && ltb k past) (within low high (f k))) 256 ≡ true
+    → (b : ℕ) → b < 256 → first ≤ b → b < past → (low ≤ f b) × (f b ≤ high)
+ranged f first past low high t b h g l =
+    within-true low high (f b)
+    (so (leb first b && ltb b past) (within low high (f b)) (holds (λ k. if-then (leb first k && ltb k past) (within low high (f k))) 256 t b h)
+    (rw (le-leb first b g, lt-ltb b past l)))

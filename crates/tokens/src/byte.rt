@@ -1,6 +1,8 @@
 // The class of a byte, and runs of bytes of one range of classes: what the loops over blanks, comments, words and string data share.
 ghost use mathlib.Core.Path.{_≡_};
-ghost use Prim.Native.Nat.{_+_, _-_, _≤_, min};
+ghost use mathlib.Core.Bool.{true, not};
+ghost use Rattle.chars.specs.Choice.{within};
+ghost use Prim.Native.Nat.{_+_, _-_, _≤_, _<_, min};
 ghost use lib.ListN.{length, drop};
 ghost use Rattle.tokens.specs.Runs.{classOf, run as runOf};
 
@@ -174,6 +176,83 @@ pub fn run(draft: &[u8], at: usize, end: usize, low: u8, high: u8) -> usize
             return i;
         }
         if high < k {
+            return i;
+        }
+        i += 1;
+    }
+    i
+}
+
+// Whether a byte lies from `first` up to `past`, which is left out.
+fn between(b: u8, first: u8, past: u8) -> bool
+    ensures { λ r. ⌜ (r ≡ true → (first ≤ b) × (b < past)) ⌝ }
+{
+    if b < first {
+        return false;
+    }
+    b < past
+}
+
+// SP and the visible characters, which comments are full of: classes 1 to 8.
+fn is_remark(b: u8) -> bool
+    ensures { λ r. ⌜ (r ≡ true → (1 ≤ classOf b) × (classOf b ≤ 8)) ⌝ }
+{
+    between(b, 0x20, 0x7F)
+}
+
+// What string data is full of: SP and visible characters of classes 4 to 9, in the order of how common they are.
+fn is_data(b: u8) -> bool
+    ensures { λ r. ⌜ (r ≡ true → (4 ≤ classOf b) × (classOf b ≤ 9)) ⌝ }
+{
+    if between(b, 0x5D, 0x7B) {
+        return true;
+    }
+    if between(b, 0x23, 0x5C) {
+        return true;
+    }
+    b == 0x20
+}
+
+// Whether a byte is seen without its class to be of a class from `low` to `high`.
+fn quick(b: u8, low: u8, high: u8) -> bool
+    ensures { λ r. ⌜ (r ≡ true → (low ≤ classOf b) × (classOf b ≤ high)) ⌝ }
+{
+    if low <= 1 {
+        if 8 <= high {
+            return is_remark(b);
+        }
+    }
+    if 4 < low {
+        return false;
+    }
+    if high < 9 {
+        return false;
+    }
+    is_data(b)
+}
+
+// Whether a byte's class is none from `low` to `high`.
+fn outside(b: u8, low: u8, high: u8) -> bool
+    ensures { λ r. ⌜ r ≡ not (within low high (classOf b)) ⌝ }
+{
+    if quick(b, low, high) {
+        return false;
+    }
+    let k = class(b);
+    if k < low {
+        return true;
+    }
+    high < k
+}
+
+// The same as `run`, for runs that are long: most bytes are passed over without a look at their class.
+pub fn long_run(draft: &[u8], at: usize, end: usize, low: u8, high: u8) -> usize
+    requires { ⌜ (at ≤ end) × (end ≤ length (now draft)) ⌝ }
+    ensures { λ r. ⌜ r ≡ at + runOf low high (end - at) (drop at (now (draft .entry))) ⌝ }
+{
+    let mut i = at;
+    while i < end {
+        if outside(draft[i], low, high) {
             return i;
         }
         i += 1;

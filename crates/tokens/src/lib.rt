@@ -15,6 +15,7 @@ pub mod copier;
 mod sequence;
 
 use byte::class;
+use byte::long_run;
 use byte::run;
 use byte::until;
 use chars::Character;
@@ -101,7 +102,7 @@ fn comment(draft: &[u8], at: usize) -> usize
     requires { ⌜ at ≤ length (now draft) ⌝ }
     ensures { λ r. ⌜ (streamAt (now (draft .entry)) r ≡ pastComment (streamAt (now (draft .entry)) at)) × (at ≤ r) × (r ≤ length (now (draft .entry))) ⌝ }
 {
-    let mut i = run(draft, at, draft.len(), 1, 8);
+    let mut i = long_run(draft, at, draft.len(), 1, 8);
     while i < draft.len() {
         let Character::Clean { number, after } = chars::character_at(draft, i) else {
             return i;
@@ -109,7 +110,7 @@ fn comment(draft: &[u8], at: usize) -> usize
         if number == 0x0A {
             return after;
         }
-        i = run(draft, after, draft.len(), 1, 8);
+        i = long_run(draft, after, draft.len(), 1, 8);
     }
     i
 }
@@ -217,7 +218,7 @@ fn plain(draft: &[u8], at: usize, end: usize) -> usize
     ensures { λ r. ⌜ Data (now (draft .entry)) false at end r ⌝ }
 {
     if draft[at] < 0x80 {
-        return run(draft, at, end, 4, 9);
+        return long_run(draft, at, end, 4, 9);
     }
     at + wide(draft, at, end)
 }

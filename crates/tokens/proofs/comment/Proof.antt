@@ -17,11 +17,11 @@ Inv-loop draft at i₀ i = Ran draft pastComment 1 8 at i
 abbrev μ-loop : tie.MeasureT-loop
 μ-loop draft at i₀ i = length draft - i
 
-run-requires : tie.Need-run-requires Inv-loop μ-loop
-run-requires c κs = search needs
+long-run-requires : tie.Need-long-run-requires Inv-loop μ-loop
+long-run-requires c κs = search needs
 
 loop-holds : tie.Need-loop-holds Inv-loop μ-loop
-loop-holds c = let a = c .before .before .args in remarked (a .draft .now) (a .at) (c .run .result) (c .before .before .pre) (c .run .ensures)
+loop-holds c = let a = c .before .before .args in remarked (a .draft .now) (a .at) (c .long-run .result) (c .before .before .pre) (c .long-run .ensures)
 
 character-at-requires : tie.Need-character-at-requires Inv-loop μ-loop
 character-at-requires c κs = search needs
@@ -49,8 +49,8 @@ returns-2 c =
     let far = reaches (a .draft .now) (l .i) (g .0 .0) (g .0 .1 .0) is in
     (comment-ends (a .draft .now) (l .i) (g .0 .0) (g .0 .1 .0) is (c .if1 .taken) ∙ l .inv .left, omega (arith, l .inv .on, far .0), far .1)
 
-run-requires-2 : tie.Need-run-requires-2 Inv-loop μ-loop
-run-requires-2 c κs =
+long-run-requires-2 : tie.Need-long-run-requires-2 Inv-loop μ-loop
+long-run-requires-2 c κs =
     let a = c .before .before .before .before .before .before .before .before .before .args in
     let g = c .before .before .number .given in
     let is = sym (c .before .before .before .before .character-at .ensures) ∙ g .1 in
@@ -64,7 +64,7 @@ loop-less c =
     let g = c .before .before .before .number .given in
     let is = sym (c .before .before .before .before .before .character-at .ensures) ∙ g .1 in
     let far = reaches (a .draft .now) (l .i) (g .0 .0) (g .0 .1 .0) is in
-    let ran = remarked (a .draft .now) (g .0 .1 .0) (c .run2 .result) (far .1) (c .run2 .ensures) in
+    let ran = remarked (a .draft .now) (g .0 .1 .0) (c .long-run2 .result) (far .1) (c .long-run2 .ensures) in
     omega (arith, ran .on, ran .there, far .0, far .1)
 
 loop-again : tie.Need-loop-again Inv-loop μ-loop
@@ -74,10 +74,10 @@ loop-again c =
     let g = c .before .before .before .number .given in
     let is = sym (c .before .before .before .before .before .character-at .ensures) ∙ g .1 in
     let far = reaches (a .draft .now) (l .i) (g .0 .0) (g .0 .1 .0) is in
-    joined (a .draft .now) pastComment 1 8 (a .at) (l .i) (g .0 .1 .0) (c .run2 .result) (l .inv)
+    joined (a .draft .now) pastComment 1 8 (a .at) (l .i) (g .0 .1 .0) (c .long-run2 .result) (l .inv)
     (comment-on (a .draft .now) (l .i) (g .0 .0) (g .0 .1 .0) is (c .before .if1 .left))
     (omega (arith, far .0))
-    (remarked (a .draft .now) (g .0 .1 .0) (c .run2 .result) (far .1) (c .run2 .ensures))
+    (remarked (a .draft .now) (g .0 .1 .0) (c .long-run2 .result) (far .1) (c .long-run2 .ensures))
 
 returns-3 : tie.Need-returns-3 Inv-loop μ-loop
 returns-3 c =
@@ -94,13 +94,13 @@ comment-spec =
     (tie.spec
     Inv-loop
     μ-loop
-    run-requires
+    long-run-requires
     loop-holds
     character-at-requires
     enum-known-number
     returns
     returns-2
-    run-requires-2
+    long-run-requires-2
     loop-less
     loop-again
     returns-3)

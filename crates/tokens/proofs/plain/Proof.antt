@@ -9,13 +9,13 @@ use Rattle.tokens.proofs.plain.Tie as tie
 shared-slice-read-if1 : tie.Need-shared-slice-read-if1
 shared-slice-read-if1 c = search needs
 
-run-requires : tie.Need-run-requires
-run-requires c κs = search needs
+long-run-requires : tie.Need-long-run-requires
+long-run-requires c κs = search needs
 
 returns : tie.Need-returns
 returns c =
     let a = c .before .before .before .before .args in
-    rw (c .run .ensures) (run-passed (a .draft .now) (a .at) (a .end) (omega arith) (omega arith))
+    rw (c .long-run .ensures) (run-passed (a .draft .now) (a .at) (a .end) (omega arith) (omega arith))
 
 wide-requires : tie.Need-wide-requires
 wide-requires c κs = search needs
@@ -33,4 +33,4 @@ returns-2 c =
 pub plain-spec : {M : Type 1} → statement M
 plain-spec =
     tie.close
-    (tie.spec shared-slice-read-if1 run-requires returns wide-requires add-result returns-2)
+    (tie.spec shared-slice-read-if1 long-run-requires returns wide-requires add-result returns-2)
