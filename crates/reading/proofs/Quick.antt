@@ -1,4 +1,4 @@
--- A space is passed over, and one of the bytes of groups and arrays is a token by itself: what the definition reads at such a byte is known without
+-- Whitespace is passed over, and one of the bytes of groups and arrays is a token by itself: what the definition reads at such a byte is known without
 -- looking further.
 use mathlib.Core.Path.{_≡_, refl, sym, _∙_, ap}
 use mathlib.Core.Bool.{Bool, true, false, not, _&&_, _||_, true≢false}
@@ -72,22 +72,23 @@ module _ (draft : List ℕ) (at : ℕ) (there : at < length draft) where
       alone limits draft at b (at + 1) (lone (leb-true 1 (classOf b) (p5 .1))) (not-true (white b) (p1 .0)) (not-true (eqb b 0x23) (p2 .0)) (p3 .0)
       (not-true (inclusive b) (p4 .0)) (p5 .0)
 
-  blank-here : getD draft at 0 ≡ 0x20 → tokens limits between (streamAt draft at) ≡ tokens limits between (streamAt draft (at + 1))
-  unfolding tokens step begins follows white classOf visible exclusive legal inclusive atomic
-  blank-here e =
-      rw (at-character draft at 0x20 (at + 1) (rw e at (lone (rw e (omega arith)))))
+  blank-here :
+      white (getD draft at 0) ≡ true → 1 ≤ classOf (getD draft at 0)
+      → tokens limits between (streamAt draft at) ≡ tokens limits between (streamAt draft (at + 1))
+  unfolding tokens step begins follows
+  blank-here w own = rw (at-character draft at (getD draft at 0) (at + 1) (lone own), w)
 
 module _ (draft list text groups : List ℕ) (s : State) (at : ℕ) (there : at < length draft) (ready : Ready s list text groups at) where
-  pub blank-on : getD draft at 0 ≡ 0x20 → goesRound draft list text groups s at (On s (at + 1)) list text groups
+  pub blank-on : white (getD draft at 0) ≡ true → 1 ≤ classOf (getD draft at 0) → goesRound draft list text groups s at (On s (at + 1)) list text groups
   unfolding goesRound ahead before sizes
-  blank-on e = (
+  blank-on w own = (
     record {
       es = [];
       list-is = sym (written-none list (s .entities) (s .text));
       text-is = sym (text-none text (s .text));
       many = omega arith;
       much = omega arith;
-      comes = ap (entities limits draft (roomLeft s list text) (readerOf s groups)) (blank-here draft at there e);
+      comes = ap (entities limits draft (roomLeft s list text) (readerOf s groups)) (blank-here draft at there w own);
     },
     later s list text groups at (at + 1) (omega arith) ready,
     omega arith,

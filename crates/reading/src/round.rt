@@ -1,8 +1,10 @@
 // One round of reading: what stands at a place is taken, and reading goes on behind it or is over.
 ghost use mathlib.Core.Path.{_≡_};
-ghost use mathlib.Core.Bool.{not, _&&_};
+ghost use mathlib.Core.Bool.{true, not, _&&_};
 ghost use Prim.Native.Nat.{_≤_};
 ghost use lib.ListN.{length};
+ghost use Rattle.tokens.specs.Sorts.{white};
+ghost use Rattle.tokens.specs.Runs.{classOf};
 ghost use Rattle.reading.specs.Stepping.{Ready};
 ghost use Rattle.reading.specs.Rounds.{goesRound, behindOf, endedOf};
 use crate::apart;
@@ -76,6 +78,16 @@ fn ended(step: Step, s: State, place: usize, after: usize) -> Round
     }
 }
 
+// SP and LF, the whitespace that drafts are full of.
+fn is_blank(b: u8) -> bool
+    ensures { λ r. ⌜ (r ≡ true → (white b ≡ true) × (1 ≤ classOf b)) ⌝ }
+{
+    if b == b' ' {
+        return true;
+    }
+    b == b'\n'
+}
+
 // Any token.
 fn any(
     draft: &[u8],
@@ -119,7 +131,7 @@ fn any(
     behind(done, s, place, after)
 }
 
-// The next round. A space, the bytes of groups and arrays, and words are taken as they stand.
+// The next round. Whitespace, the bytes of groups and arrays, and words are taken as they stand.
 pub fn go_round(
     draft: &[u8],
     list: &mut [u32],
@@ -133,7 +145,7 @@ pub fn go_round(
 {
     if at < draft.len() {
         let b = draft[at];
-        if b == b' ' {
+        if is_blank(b) {
             return Round::On {
                 state: s,
                 at: at + 1,

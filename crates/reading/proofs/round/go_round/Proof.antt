@@ -1,4 +1,4 @@
--- `reading::round::go_round` meets its contract: a space, a byte by itself and a word are what Quick says, and any other token is handled as any.
+-- `reading::round::go_round` meets its contract: whitespace, a byte by itself and a word are what Quick says, and any other token is handled as any.
 -- Assumes nothing.
 use mathlib.Core.Path.{sym, _∙_}
 use mathlib.Core.Bool.{not}
@@ -13,13 +13,17 @@ use Rattle.reading.proofs.round.go_round.Tie as tie
 shared-slice-read-b : tie.Need-shared-slice-read-b
 shared-slice-read-b c = search needs
 
+is-blank-requires : tie.Need-is-blank-requires
+is-blank-requires c κs = search needs
+
 add-t16 : tie.Need-add-t16
-add-t16 c = omega arith
+add-t16 c = search needs
 
 returns : tie.Need-returns
 returns c =
-    let a = c .before .before .before .before .before .before .before .args in
-    blank-on (a .draft .now) (a .list .now) (a .text .now) (a .groups .now) (a .s) (a .at) (c .before .before .if1 .taken) (c .before .before .before .before .before .before .before .pre .1) (c .if2 .taken)
+    let a = c .before .before .before .before .before .before .before .before .args in
+    let b = c .before .is-blank .ensures (c .if2 .taken) in
+    blank-on (a .draft .now) (a .list .now) (a .text .now) (a .groups .now) (a .s) (a .at) (c .before .before .before .if1 .taken) (c .before .before .before .before .before .before .before .before .pre .1) (b .0) (b .1)
 
 regular-requires : tie.Need-regular-requires
 regular-requires c κs = search needs
@@ -29,8 +33,8 @@ is-atom-requires c κs = search needs
 
 atom-requires : tie.Need-atom-requires
 atom-requires c κs =
-    let a = c .before .before .before .before .before .before .before .before .before .before .before .before .before .args in
-    let p = c .before .before .before .before .before .before .before .before .before .before .before .before .before .pre in
+    let a = c .before .before .before .before .before .before .before .before .before .before .before .before .before .before .args in
+    let p = c .before .before .before .before .before .before .before .before .before .before .before .before .before .before .pre in
     let flags = both (not (a .s .metacommand)) (not (a .s .opened)) (sym (c .before .before .before .before .before .regular .ensures) ∙ c .before .before .before .before .if3 .taken) in (
       sym (c .before .before .before .is-atom .ensures) ∙ c .before .before .if4 .taken,
       not-true (a .s .metacommand) (flags .0),
@@ -53,11 +57,11 @@ same-length-2 c = search needs
 
 returns-2 : tie.Need-returns-2
 returns-2 c =
-    let a = c .before .before .before .before .before .before .before .before .before .before .before .before .before .before .before .before .before .before .before .args in
-    let ready = c .before .before .before .before .before .before .before .before .before .before .before .before .before .before .before .before .before .before .before .pre .1 in
+    let a = c .before .before .before .before .before .before .before .before .before .before .before .before .before .before .before .before .before .before .before .before .args in
+    let ready = c .before .before .before .before .before .before .before .before .before .before .before .before .before .before .before .before .before .before .before .before .pre .1 in
     let flags = both (not (a .s .metacommand)) (not (a .s .opened)) (sym (c .before .before .before .before .before .before .before .before .before .before .before .regular .ensures) ∙ c .before .before .before .before .before .before .before .before .before .before .if3 .taken) in
     rw (c .behind .ensures)
-    (atom-on (a .draft .now) (a .list .now) (a .text .now) (a .groups .now) (a .s) (a .at) (c .before .before .before .before .before .before .before .before .before .before .before .before .before .before .if1 .taken) ready
+    (atom-on (a .draft .now) (a .list .now) (a .text .now) (a .groups .now) (a .s) (a .at) (c .before .before .before .before .before .before .before .before .before .before .before .before .before .before .before .if1 .taken) ready
     (sym (c .before .before .before .before .before .before .before .before .before .is-atom .ensures) ∙ c .before .before .before .before .before .before .before .before .if4 .taken) (not-true (a .s .opened) (flags .1)) (c .before .before .before .before .before .atom .result) (c .before .before .before .before .before .atom .last .0) (c .before .before .before .before .before .atom .last .1 .0)
     (λ T e. c .before .before .before .before .before .atom .ensures T (a .text .now) e ready) (omega (arith, c .before .before .before .before .before .atom .kept)))
 
@@ -69,8 +73,8 @@ sub-hold-word c = let w = c .before .before .before .word-end .ensures (c .befor
 
 hold-word-requires : tie.Need-hold-word-requires
 hold-word-requires c κs =
-    let a = c .before .before .before .before .before .before .before .before .before .before .before .before .before .before .before .args in
-    let p = c .before .before .before .before .before .before .before .before .before .before .before .before .before .before .before .pre in
+    let a = c .before .before .before .before .before .before .before .before .before .before .before .before .before .before .before .before .args in
+    let p = c .before .before .before .before .before .before .before .before .before .before .before .before .before .before .before .before .pre in
     let w = c .before .before .before .word-end .ensures (c .before .before .if5 .taken) in
     let end = c .before .before .before .word-end .result in (
       omega (arith, p .0),
@@ -90,8 +94,8 @@ same-length-4 c = search needs
 
 returns-3 : tie.Need-returns-3
 returns-3 c =
-    let a = c .before .before .before .before .before .before .before .before .before .before .before .before .before .before .before .before .before .before .before .before .before .args in
-    let ready = c .before .before .before .before .before .before .before .before .before .before .before .before .before .before .before .before .before .before .before .before .before .pre .1 in
+    let a = c .before .before .before .before .before .before .before .before .before .before .before .before .before .before .before .before .before .before .before .before .before .before .args in
+    let ready = c .before .before .before .before .before .before .before .before .before .before .before .before .before .before .before .before .before .before .before .before .before .before .pre .1 in
     let w = c .before .before .before .before .before .before .before .before .before .word-end .ensures (c .before .before .before .before .before .before .before .before .if5 .taken) in
     let flags = both (not (a .s .metacommand)) (not (a .s .opened)) (sym (c .before .before .before .before .before .before .before .before .before .before .before .before .before .regular .ensures) ∙ c .before .before .before .before .before .before .before .before .before .before .before .before .if3 .taken) in
     rw (c .behind2 .ensures)
@@ -120,6 +124,7 @@ go-round-spec =
     tie.close
     (tie.spec
     shared-slice-read-b
+    is-blank-requires
     add-t16
     returns
     regular-requires
