@@ -104,6 +104,9 @@ fn comment(draft: &[u8], at: usize) -> usize
 {
     let mut i = long_run(draft, at, draft.len(), 1, 8);
     while i < draft.len() {
+        if draft[i] == 0x0A {
+            return i + 1;
+        }
         let Character::Clean { number, after } = chars::character_at(draft, i) else {
             return i;
         };
