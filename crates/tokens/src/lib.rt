@@ -465,7 +465,7 @@ pub fn word_end(draft: &[u8], at: usize) -> usize
     if class(b) != 4 {
         return 0;
     }
-    if b == b'|' {
+    if b == 0x7C {
         return 0;
     }
     let end = until(draft.len(), at + 1, limits::TOKEN - 1);
