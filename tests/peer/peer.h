@@ -1,4 +1,4 @@
-/* A second reader of Shastina texts, written from documents 004 and 01 alone, without a look at the library.
+/* A second reader of Shastina texts, written from documents 004 and 01 and the header, without a look at the library's code.
  *
  * PEER_WRONG, a number given when peer.c is compiled, changes one rule, so that a comparison can be shown to find it:
  *   0  no rule is changed;
