@@ -1,4 +1,4 @@
-/* A C program against the library: reads a draft on standard input and shows its words, strings and refusal. README.md has the
+/* A C program against the library: reads a draft on standard input and shows its entities, or where and why it was refused. README.md has the
  * lines that build and run it.
  */
 #include <inttypes.h>
@@ -6,9 +6,12 @@
 
 #include "vogieburn.h"
 
+/* How many entities there is room for. */
+enum { ROOM = 2000 };
+
 /* One byte more than a draft may have, so that a longer one is refused as such. */
 static uint8_t draft[VOGIEBURN_DRAFT_LIMIT + 1];
-static vogieburn_entity list[2000];
+static vogieburn_entity list[ROOM];
 static uint8_t text[VOGIEBURN_DRAFT_LIMIT];
 
 static void show(const vogieburn_entity *entity)
@@ -27,7 +30,7 @@ int main(void)
 {
     const size_t length = fread(draft, 1, sizeof draft, stdin);
     const vogieburn_answer answer =
-        vogieburn_read(draft, length, (uint32_t *)list, sizeof list / sizeof(uint32_t), text, sizeof text);
+        vogieburn_read(draft, length, (uint32_t *)list, ROOM * VOGIEBURN_NUMBERS, text, sizeof text);
 
     for (uint64_t i = 0; i < answer.entities; i++)
         show(&list[i]);
