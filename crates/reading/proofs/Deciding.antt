@@ -24,6 +24,16 @@ use Rattle.reading.specs.declared.step.Step.the-variants.{Goes, Stops}
 use Rattle.reading.proofs.OpenGroups.{so-many}
 use Rattle.reading.proofs.Cutting.{first-byte}
 
+-- what a token did is told of a state by what that holds alone
+pub same-held :
+    (s t : State) → t .entities ≡ s .entities → t .text ≡ s .text → (h : Handled) (list text : List ℕ) (place : ℕ) (r : Step) (list′ text′ groups′ : List ℕ)
+    → agrees h r t list text list′ text′ groups′ place → agrees h r s list text list′ text′ groups′ place
+unfolding agrees
+same-held s t e u (stops n) list text place (Stops m) list′ text′ groups′ a = a
+same-held s t e u (stops n) list text place (Goes v) list′ text′ groups′ a = a
+same-held s t e u (holds es room q) list text place (Stops m) list′ text′ groups′ a = a
+same-held s t e u (holds es room q) list text place (Goes v) list′ text′ groups′ a = rw (e, u) at a
+
 module _ (s : State) (list text groups : List ℕ) (place sort c : ℕ) (T S : List ℕ) where
   abbrev judge : Reader → Judged
   judge q = judgedAs sort q place T S
@@ -49,15 +59,6 @@ module _ (s : State) (list text groups : List ℕ) (place sort c : ℕ) (T S : L
   -- the state with the inserted group open
   abbrev pub within : State
   within = record { metacommand = false; opened = false; depth = s .depth + 1; entities = s .entities; text = s .text }
-
-  same-held :
-      (h : Handled) (r : Step) (list′ text′ groups′ : List ℕ) → agrees h r within list text list′ text′ groups′ place
-      → agrees h r s list text list′ text′ groups′ place
-  unfolding agrees
-  same-held (stops n) (Stops m) list′ text′ groups′ a = a
-  same-held (stops n) (Goes t) list′ text′ groups′ a = a
-  same-held (holds es room q) (Stops m) list′ text′ groups′ a = a
-  same-held (holds es room q) (Goes t) list′ text′ groups′ a = a
 
   abbrev Comes : Step → (list′ text′ groups′ : List ℕ) → Type 0
   Comes r list′ text′ groups′ =
@@ -85,7 +86,7 @@ module _ (s : State) (list text groups : List ℕ) (place sort c : ℕ) (T S : L
     unfolding inserted roomLeft readerOf within-groups bares kindOf
     brought pushed r list′ text′ groups′ some e a =
         rw (lt-ltb (length (openGroups groups (s .depth))) 64 shallow, ne-eqb (length list / 6 - s .entities) 0 some)
-        (same-held _ r list′ text′ groups′ (rw e at a))
+        (same-held s within refl refl _ list text place r list′ text′ groups′ (rw e at a))
 
   pub ready-within :
       (pushed : List ℕ) → s .depth < 64 → Ready s list text groups place → length pushed ≡ 64

@@ -10,6 +10,7 @@ pub mod Textless
 pub mod OneEntity
 pub mod BySort
 pub mod Deciding
+pub mod Entering
 pub mod Walking
 pub mod Quick
 pub mod Held

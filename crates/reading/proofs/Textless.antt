@@ -33,6 +33,10 @@ pub one-of-some : (kind : ℕ) → (kind ≡ 0 → ⊥) → one kind ≡ 1
 unfolding one
 one-of-some kind h = rw (ne-eqb kind 0 h)
 
+pub one-small : (kind : ℕ) → one kind ≤ 1
+unfolding one
+one-small kind = either (eqb kind 0) (λ t. rw t (omega arith)) (λ t. rw t (omega arith))
+
 pub positive : (n : ℕ) → (n ≡ 0 → ⊥) → 1 ≤ n
 positive n h = omega (arith, h)
 

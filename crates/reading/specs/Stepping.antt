@@ -128,6 +128,17 @@ inserted room groups place judge =
     else fitted room (bare begin-group place ∷ []) (judge (within-groups (1 ∷ groups)))
     else stops 17
 
+-- the state in which a token other than `]` is judged in regular mode: the begin group that it brings is open
+unfoldable pub enteredBy : State → State
+enteredBy s =
+    record {
+      metacommand = false;
+      opened = false;
+      depth = if s .opened then s .depth + 1 else s .depth;
+      entities = s .entities;
+      text = s .text;
+    }
+
 -- a token as the code takes it apart: 4 stands for a refusal, and a part that it has not is 0
 unfoldable pub pieceOf : Token → Piece
 pieceOf (Simple place after length) =

@@ -23,19 +23,20 @@ use crate::step::State;
 use crate::step::Step;
 use crate::step::one;
 
+// Most bytes that are none lie above `,`.
 pub fn is_atom(b: u8) -> bool
     ensures { λ r. ⌜ r ≡ isAtom b ⌝ }
 {
+    if b',' < b {
+        return b == b']';
+    }
     if b == b'(' {
         return true;
     }
     if b == b')' {
         return true;
     }
-    if b == b',' {
-        return true;
-    }
-    b == b']'
+    b == b','
 }
 
 // A token that its rules allow: 18 where its entities do not fit, else they are written and the groups changed.

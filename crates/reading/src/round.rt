@@ -13,7 +13,7 @@ use crate::atoms::is_atom;
 use crate::step::State;
 use crate::step::Step;
 use crate::step::take;
-use crate::words::hold_word;
+use crate::words::take_word;
 
 // What a round comes to.
 pub enum Round {
@@ -88,6 +88,23 @@ fn is_blank(b: u8) -> bool
     b == b'\n'
 }
 
+// The state behind `[`.
+fn array_begins(s: State) -> State
+    ensures { λ r. ⌜ r ≡ record { metacommand = s .metacommand; opened = true; depth = s .depth; entities = s .entities; text = s .text } ⌝ }
+{
+    let metacommand = s.metacommand;
+    let depth = s.depth;
+    let entities = s.entities;
+    let text = s.text;
+    State {
+        metacommand,
+        opened: true,
+        depth,
+        entities,
+        text,
+    }
+}
+
 // Any token.
 fn any(
     draft: &[u8],
@@ -156,9 +173,16 @@ pub fn go_round(
                 let step = atom(list, groups, s, b, at);
                 return behind(step, s, at, at + 1);
             }
+            if b == b'[' {
+                let state = array_begins(s);
+                return Round::On { state, at: at + 1 };
+            }
+        }
+        let metacommand = s.metacommand;
+        if !metacommand {
             let end = tokens::word_end(draft, at);
             if end != 0 {
-                let step = hold_word(draft, list, text, s, b, at, end - at);
+                let step = take_word(draft, list, text, groups, s, b, at, end - at);
                 return behind(step, s, at, end);
             }
         }

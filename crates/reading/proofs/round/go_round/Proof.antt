@@ -6,7 +6,7 @@ use native.Mathlib.Omega.{arith}
 use borrow.Author.Needs.{needs}
 use borrow.Author.Tests.{not-true}
 use Rattle.chars.proofs.Cases.{both}
-use Rattle.reading.proofs.Quick.{blank-on, atom-on, steady, word-on, word-contents, word-short, spare}
+use Rattle.reading.proofs.Quick.{blank-on, atom-on, array-on, steady, word-on, word-contents, word-short}
 use Rattle.reading.proofs.round.go_round.Statement.{statement}
 use Rattle.reading.proofs.round.go_round.Tie as tie
 
@@ -16,8 +16,8 @@ shared-slice-read-b c = search needs
 is-blank-requires : tie.Need-is-blank-requires
 is-blank-requires c κs = search needs
 
-add-t16 : tie.Need-add-t16
-add-t16 c = search needs
+add-t18 : tie.Need-add-t18
+add-t18 c = search needs
 
 returns : tie.Need-returns
 returns c =
@@ -65,22 +65,36 @@ returns-2 c =
     (sym (c .before .before .before .before .before .before .before .before .before .is-atom .ensures) ∙ c .before .before .before .before .before .before .before .before .if4 .taken) (not-true (a .s .opened) (flags .1)) (c .before .before .before .before .before .atom .result) (c .before .before .before .before .before .atom .last .0) (c .before .before .before .before .before .atom .last .1 .0)
     (λ T e. c .before .before .before .before .before .atom .ensures T (a .text .now) e ready) (omega (arith, c .before .before .before .before .before .atom .kept)))
 
+array-begins-requires : tie.Need-array-begins-requires
+array-begins-requires c κs = search needs
+
+add-t27 : tie.Need-add-t27
+add-t27 c = search needs
+
+returns-3 : tie.Need-returns-3
+returns-3 c =
+    let a = c .before .before .before .before .before .before .before .before .before .before .before .before .before .before .args in
+    let flags = both (not (a .s .metacommand)) (not (a .s .opened)) (sym (c .before .before .before .before .before .regular .ensures) ∙ c .before .before .before .before .if3 .taken) in
+    rw (c .array-begins .ensures)
+    (array-on (a .draft .now) (a .list .now) (a .text .now) (a .groups .now) (a .s) (a .at) (c .before .before .before .before .before .before .before .before .before .if1 .taken) (c .before .before .before .before .before .before .before .before .before .before .before .before .before .before .pre .1) (c .before .if5 .taken)
+    (not-true (a .s .metacommand) (flags .0)) (not-true (a .s .opened) (flags .1)))
+
 word-end-requires : tie.Need-word-end-requires
 word-end-requires c κs = search needs
 
-sub-hold-word : tie.Need-sub-hold-word
-sub-hold-word c = let w = c .before .before .before .word-end .ensures (c .before .before .if5 .taken) in omega (arith, w .0)
+sub-take-word : tie.Need-sub-take-word
+sub-take-word c = let w = c .before .before .before .before .word-end .ensures (c .before .before .before .if7 .taken) in omega (arith, w .0)
 
-hold-word-requires : tie.Need-hold-word-requires
-hold-word-requires c κs =
+take-word-requires : tie.Need-take-word-requires
+take-word-requires c κs =
     let a = c .before .before .before .before .before .before .before .before .before .before .before .before .before .before .before .before .args in
     let p = c .before .before .before .before .before .before .before .before .before .before .before .before .before .before .before .before .pre in
-    let w = c .before .before .before .word-end .ensures (c .before .before .if5 .taken) in
-    let end = c .before .before .before .word-end .result in (
-      omega (arith, p .0),
+    let w = c .before .before .before .before .word-end .ensures (c .before .before .before .if7 .taken) in
+    let end = c .before .before .before .before .word-end .result in (
+      omega (arith, p .0, w .1),
       word-short (a .draft .now) (a .list .now) (a .text .now) (a .groups .now) (a .s) (a .at) end (w .2),
       word-contents (a .draft .now) (a .list .now) (a .text .now) (a .groups .now) (a .s) (a .at) end (w .2),
-      spare (a .s) (a .list .now) (a .text .now) (a .groups .now) (a .at) (p .1),
+      p .1,
     )
 
 behind-requires-2 : tie.Need-behind-requires-2
@@ -92,23 +106,21 @@ same-length-3 c = search needs
 same-length-4 : tie.Need-same-length-4
 same-length-4 c = search needs
 
-returns-3 : tie.Need-returns-3
-returns-3 c =
-    let a = c .before .before .before .before .before .before .before .before .before .before .before .before .before .before .before .before .before .before .before .before .before .before .args in
-    let ready = c .before .before .before .before .before .before .before .before .before .before .before .before .before .before .before .before .before .before .before .before .before .before .pre .1 in
-    let w = c .before .before .before .before .before .before .before .before .before .word-end .ensures (c .before .before .before .before .before .before .before .before .if5 .taken) in
-    let flags = both (not (a .s .metacommand)) (not (a .s .opened)) (sym (c .before .before .before .before .before .before .before .before .before .before .before .before .before .regular .ensures) ∙ c .before .before .before .before .before .before .before .before .before .before .before .before .if3 .taken) in
+same-length-5 : tie.Need-same-length-5
+same-length-5 c = search needs
+
+returns-4 : tie.Need-returns-4
+returns-4 c =
+    let a = c .before .before .before .before .before .before .before .before .before .before .before .before .before .before .before .before .before .before .before .before .before .before .before .before .args in
+    let w = c .before .before .before .before .before .before .before .before .before .before .before .before .word-end .ensures (c .before .before .before .before .before .before .before .before .before .before .before .if7 .taken) in
+    let took = c .before .before .before .before .before .before .before .take-word in
     rw (c .behind2 .ensures)
-    (word-on (a .draft .now) (a .list .now) (a .text .now) (a .groups .now) (a .s) (a .at) (c .before .before .before .before .before .before .before .before .before .word-end .result) (w .2) (w .0) (w .3)
-    (not-true (a .s .metacommand) (flags .0)) (not-true (a .s .opened) (flags .1)) (c .before .before .before .before .before .hold-word .result) (c .before .before .before .before .before .hold-word .last .1 .0)
-    (c .before .before .before .before .before .hold-word .last .1 .1 .0) (λ e. c .before .before .before .before .before .hold-word .ensures e (a .groups .now) ready) (omega (arith, c .before .before .before .before .before .hold-word .kept))
-    (omega (arith, c .before .before .before .before .before .hold-word .kept)))
+    (word-on (a .draft .now) (a .list .now) (a .text .now) (a .groups .now) (a .s) (a .at) (c .before .before .before .before .before .before .before .before .before .before .before .before .word-end .result) (w .2) (w .0) (w .3)
+    (not-true (a .s .metacommand) (c .before .before .before .before .before .before .before .before .before .before .before .before .before .if6 .taken)) (took .result) (took .last .1 .0) (took .last .1 .1 .0) (took .last .1 .1 .1 .0) (took .ensures)
+    (omega (arith, took .kept)) (omega (arith, took .kept)))
 
 any-requires : tie.Need-any-requires
 any-requires c κs = search needs
-
-same-length-5 : tie.Need-same-length-5
-same-length-5 c = search needs
 
 same-length-6 : tie.Need-same-length-6
 same-length-6 c = search needs
@@ -116,8 +128,11 @@ same-length-6 c = search needs
 same-length-7 : tie.Need-same-length-7
 same-length-7 c = search needs
 
-returns-4 : tie.Need-returns-4
-returns-4 c = search needs
+same-length-8 : tie.Need-same-length-8
+same-length-8 c = search needs
+
+returns-5 : tie.Need-returns-5
+returns-5 c = search needs
 
 pub go-round-spec : {M : Type 1} → statement M
 go-round-spec =
@@ -125,7 +140,7 @@ go-round-spec =
     (tie.spec
     shared-slice-read-b
     is-blank-requires
-    add-t16
+    add-t18
     returns
     regular-requires
     is-atom-requires
@@ -135,15 +150,19 @@ go-round-spec =
     same-length
     same-length-2
     returns-2
+    array-begins-requires
+    add-t27
+    returns-3
     word-end-requires
-    sub-hold-word
-    hold-word-requires
+    sub-take-word
+    take-word-requires
     behind-requires-2
     same-length-3
     same-length-4
-    returns-3
-    any-requires
     same-length-5
+    returns-4
+    any-requires
     same-length-6
     same-length-7
-    returns-4)
+    same-length-8
+    returns-5)

@@ -20,7 +20,7 @@ enum-known-v-2 c = search needs
 hold-requires : tie.Need-hold-requires
 hold-requires c κs =
     let p = c .before .before .before .before .before .before .before .before .before .pre in
-    (rw (c .before .before .before .v2 .given .1) at (c .before .before .before .before .before .word .ensures .1 (c .before .before .before .before .before .before .before .before .before .args .s .depth)), rw (c .before .before .before .v2 .given .1) at (c .before .before .before .before .before .word .ensures .2), p .0, p .1, p .2, p .3)
+    (p .0, rw (c .before .before .before .v2 .given .1) at (c .before .before .before .before .before .word .ensures .1 (c .before .before .before .before .before .before .before .before .before .args .s .depth)), rw (c .before .before .before .v2 .given .1) at (c .before .before .before .before .before .word .ensures .2), p .1, p .2, p .3, p .4)
 
 returns : tie.Need-returns
 unfolding agrees fitted meaning
