@@ -453,8 +453,31 @@ pub fn token_at(draft: &[u8], at: usize) -> Token
     token_from(draft, i)
 }
 
-// The byte after the simple token that begins at a place, where it is one that US-ASCII ends and that is neither a single character of its own nor
-// begins with a bar; else 0, which says nothing of the token.
+// From `at` on, the place before `end` of the character that ends a word, of class 6 to 9; or 0, where plain characters reach `end` or another
+// character stands first.
+fn ends_at(draft: &[u8], at: usize, end: usize) -> usize
+    requires { ⌜ (at ≤ end) × (end ≤ length (now draft)) ⌝ }
+    ensures { λ r. ⌜ ((r ≡ 0 → ⊥) → (r ≡ at + runOf 3 4 (end - at) (drop at (now (draft .entry)))) × (r < end) × (6 ≤ classOf (getD (now (draft .entry)) r 0))) ⌝ }
+{
+    let mut i = at;
+    while i < end {
+        let k = class(draft[i]);
+        if 5 < k {
+            return i;
+        }
+        if k < 3 {
+            return 0;
+        }
+        if k == 5 {
+            return 0;
+        }
+        i += 1;
+    }
+    0
+}
+
+// The byte after the simple token that begins at a place, one that US-ASCII ends and that is neither a single character of its own nor begins with
+// a bar; or 0, which says nothing of the token.
 pub fn word_end(draft: &[u8], at: usize) -> usize
     ensures { λ r. ⌜ ((r ≡ 0 → ⊥) → (at < r) × (at < length (now (draft .entry))) × (tokenAt limits (now (draft .entry)) at ≡ Token.Simple at r (r - at)) × (classOf (getD (now (draft .entry)) at 0) ≡ 4)) ⌝ }
 {
@@ -469,14 +492,7 @@ pub fn word_end(draft: &[u8], at: usize) -> usize
         return 0;
     }
     let end = until(draft.len(), at + 1, limits::TOKEN - 1);
-    let i = run(draft, at + 1, end, 3, 4);
-    if draft.len() <= i {
-        return 0;
-    }
-    if class(draft[i]) < 6 {
-        return 0;
-    }
-    i
+    ends_at(draft, at + 1, end)
 }
 
 // What the copier did.

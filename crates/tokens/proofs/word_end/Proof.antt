@@ -1,6 +1,6 @@
 -- `tokens::word_end` meets its contract: a first character that only a word begins with, plain ones behind it, and one that ends it. Assumes nothing.
 use mathlib.Core.Path.{_≡_, refl, sym, _∙_, ap}
-use Prim.Native.Nat.{_+_, _-_, _≤_}
+use Prim.Native.Nat.{_+_, _-_}
 use native.Mathlib.Omega.{arith}
 use lib.ListN.{getD}
 use borrow.Author.Needs.{needs}
@@ -39,42 +39,30 @@ sub-until c = search needs
 until-requires : tie.Need-until-requires
 until-requires c κs = search needs
 
-add-run : tie.Need-add-run
-add-run c = search needs
+add-ends-at : tie.Need-add-ends-at
+add-ends-at c = search needs
 
-run-requires : tie.Need-run-requires
-run-requires c κs = search needs
+ends-at-requires : tie.Need-ends-at-requires
+ends-at-requires c κs = search needs
 
 returns-4 : tie.Need-returns-4
-returns-4 c = λ some. absurd (some refl)
-
-shared-slice-read-class : tie.Need-shared-slice-read-class
-shared-slice-read-class c = search needs
-
-class-requires-2 : tie.Need-class-requires-2
-class-requires-2 c κs = search needs
-
-returns-5 : tie.Need-returns-5
-returns-5 c = λ some. absurd (some refl)
-
-returns-6 : tie.Need-returns-6
 unfolding tokenAt
-returns-6 c =
-    let a = c .before .before .before .before .before .before .before .before .before .before .before .before .args in
+returns-4 c =
+    let a = c .before .before .before .before .before .before .before .before .args in
     let draft = a .draft .now in
-    let i = c .before .before .before .before .run .result in
+    let i = c .ends-at .result in
     let b = getD draft (a .at) 0 in
     let e = getD draft i 0 in
-    let first-class : classOf b ≡ 4 = sym (c .before .before .before .before .before .before .before .before .class .ensures) ∙ c .before .before .before .before .before .before .before .if2 .left in
-    let last-class : 6 ≤ classOf e = omega (arith, c .before .class2 .ensures, c .if5 .left) in
+    let first-class : classOf b ≡ 4 = sym (c .before .before .before .before .class .ensures) ∙ c .before .before .before .if2 .left in
     let p = plain b (omega arith) (omega arith) in
-    let x = ending e last-class (at-most e (omega arith)) in
-    let ran = worded draft (a .at) (c .before .before .before .before .before .until .result) i (omega arith) (c .before .before .before .before .before .until .ensures) (c .before .before .before .before .run .ensures) in
-    λ some. (
+    λ some.
+    let there = c .ends-at .ensures some in
+    let x = ending e (there .2) (at-most e (omega arith)) in
+    let ran = worded draft (a .at) (c .before .until .result) i (omega arith) (c .before .until .ensures) (there .0) in (
       ran .on,
       omega arith,
       starts.worded limits draft (a .at) b (a .at + 1) (alone-at draft (a .at) (omega arith) (omega arith)) (p .no-white) (p .no-remark) (p .is-visible)
-          (p .no-inclusive) (p .no-atomic) (ne-eqb b 0x7C (c .before .before .before .before .before .before .if3 .left))
+          (p .no-inclusive) (p .no-atomic) (ne-eqb b 0x7C (c .before .before .if3 .left))
           ∙ (ap first (ran .same)
           ∙ ended limits draft (a .at) i e (i + 1) (i - a .at) (alone-at draft i (omega arith) (omega arith)) (x .is-legal) (x .is-exclusive)),
       first-class,
@@ -92,10 +80,6 @@ word-end-spec =
     add-until
     sub-until
     until-requires
-    add-run
-    run-requires
-    returns-4
-    shared-slice-read-class
-    class-requires-2
-    returns-5
-    returns-6)
+    add-ends-at
+    ends-at-requires
+    returns-4)
