@@ -118,10 +118,13 @@ fn is_number(c: u8) -> bool
     c <= b'9'
 }
 
-// Any other simple token in regular mode, by its first byte.
+// Any other simple token in regular mode, by its first byte. Above `@` it is an operation, as most are.
 pub fn word(c: u8, opened: bool) -> Verdict
     ensures { λ r. ⌜ ((place : ℕ) (text groups : List ℕ) → getD text 0 0 ≡ c → meaning r place text [] groups ≡ adds (record { metacommand = false; opened = opened; groups = groups }) (wordOf place text)) × ((depth : ℕ) → kinds-fine r depth) × single r ⌝ }
 {
+    if b'@' < c {
+        return makes(0, 16, 0, 1, 0, false, opened);
+    }
     if is_number(c) {
         return makes(0, 9, 0, 1, 0, false, opened);
     }
