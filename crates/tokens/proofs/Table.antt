@@ -22,7 +22,7 @@ holds f (suc n) t k h =
     (λ e. ap f (eqb-true k n e) ∙ two .0)
     (λ e. holds f n (two .1) k (omega (arith, eqb-false k n e)))
 
--- where the first of two tests is passed, so is the second
+-- if the first of two tests is passed, so is the second
 abbrev pub if-then : Bool → Bool → Bool
 if-then s t = not s || t
 
@@ -30,10 +30,15 @@ pub so : (s t : Bool) → if-then s t ≡ true → s ≡ true → t ≡ true
 so true t e p = e
 so false t e p = absurd (false≢true p)
 
+-- where the first is passed by a number below `n`, so is the second
+pub implied :
+    (s t : ℕ → Bool) (n : ℕ) → below (λ k. if-then (s k) (t k)) n ≡ true → (k : ℕ) → k < n → s k ≡ true → t k ≡ true
+implied s t n c k h p = so (s k) (t k) (holds (λ j. if-then (s j) (t j)) n c k h) p
+
 -- a function has one value at every byte that passes a test
 pub constant :
     (f : ℕ → ℕ) (v : ℕ) (s : ℕ → Bool) → below (λ k. if-then (s k) (eqb v (f k))) 256 ≡ true → (b : ℕ) → b < 256 → s b ≡ true → v ≡ f b
-constant f v s t b h p = eqb-true v (f b) (so (s b) (eqb v (f b)) (holds (λ k. if-then (s k) (eqb v (f k))) 256 t b h) p)
+constant f v s t b h p = eqb-true v (f b) (implied s (λ k. eqb v (f k)) 256 t b h p)
 
 -- a function is from `low` to `high` at every byte from `first` up to `past`
 pub ranged :
@@ -41,5 +46,4 @@ pub ranged :
     → (b : ℕ) → b < 256 → first ≤ b → b < past → (low ≤ f b) × (f b ≤ high)
 ranged f first past low high t b h g l =
     within-true low high (f b)
-    (so (leb first b && ltb b past) (within low high (f b)) (holds (λ k. if-then (leb first k && ltb k past) (within low high (f k))) 256 t b h)
-    (rw (le-leb first b g, lt-ltb b past l)))
+    (implied (λ k. leb first k && ltb k past) (λ k. within low high (f k)) 256 t b h (rw (le-leb first b g, lt-ltb b past l)))

@@ -1,5 +1,5 @@
 -- What the loops of the code answer. Nothing here says more of the format than Tokens does: laws in proofs/ tie each of these to it.
-use Prim.Native.Nat.{ℕ, zero, suc, _+_, _-_, _≤_}
+use Prim.Native.Nat.{ℕ, zero, suc, _+_, _-_, _/_, _%_, _≤_}
 use mathlib.Core.Path.{_≡_}
 use mathlib.Core.Bool.{Bool, true, false, not, _&&_, _||_}
 use mathlib.Core.List.{List, [], _∷_}
@@ -42,6 +42,11 @@ unfoldable pub run : (low high n : ℕ) → List ℕ → ℕ
 run low high zero bytes = 0
 run low high (suc n) [] = 0
 run low high (suc n) (b ∷ bytes) = if within low high (classOf b) then suc (run low high n bytes) else 0
+
+-- the `n` low bytes of a number, the lowest first
+unfoldable pub bytesOf : (n w : ℕ) → List ℕ
+bytesOf zero w = []
+bytesOf (suc n) w = w % 256 ∷ bytesOf n (w / 256)
 
 -- the stream behind whitespace
 unfoldable pub pastBlanks : Stream → Stream

@@ -3,8 +3,8 @@ ghost use mathlib.Core.Path.{_≡_};
 ghost use mathlib.Core.Bool.{true, not};
 ghost use Rattle.chars.specs.Choice.{within};
 ghost use Prim.Native.Nat.{_+_, _-_, _≤_, _<_, min};
-ghost use lib.ListN.{length, drop};
-ghost use Rattle.tokens.specs.Runs.{classOf, run as runOf};
+ghost use lib.ListN.{length, take, drop};
+ghost use Rattle.tokens.specs.Runs.{classOf, run as runOf, bytesOf};
 
 // The class of any byte (specs/Runs.antt, classOf); `_` is nul, CR and all that is not US-ASCII. No arm lists two neighbours, since only then
 // the compiler makes one table of all the arms, and reads it where it lies.
@@ -245,12 +245,93 @@ fn outside(b: u8, low: u8, high: u8) -> bool
     high < k
 }
 
-// The same as `run`, for runs that are long: most bytes are passed over without a look at their class.
+// A byte as a number of eight bytes.
+fn widened(b: u8) -> u64
+    ensures { λ r. ⌜ (r ≡ b) × (r < 256) ⌝ }
+{
+    b as u64
+}
+
+// The eight bytes from `at` on as one number, the first of them lowest.
+fn eight(draft: &[u8], at: usize) -> u64
+    requires { ⌜ at + 8 ≤ length (now draft) ⌝ }
+    ensures { λ r. ⌜ bytesOf 8 r ≡ take 8 (drop at (now (draft .entry))) ⌝ }
+{
+    let a = widened(draft[at]) + widened(draft[at + 1]) * 0x100;
+    let b = widened(draft[at + 2]) + widened(draft[at + 3]) * 0x100;
+    let c = widened(draft[at + 4]) + widened(draft[at + 5]) * 0x100;
+    let d = widened(draft[at + 6]) + widened(draft[at + 7]) * 0x100;
+    let e = a + b * 0x10000;
+    let f = c + d * 0x10000;
+    e + f * 0x100000000
+}
+
+// Whether each of the eight bytes of a number is from 20 to 7F hex: classes 1 to 8. None has its highest bit, so that no sum with 60 is carried
+// over to the next byte, and the sum has it from 20 on.
+fn all_remark(w: u64) -> bool
+    ensures { λ r. ⌜ (r ≡ true → runOf 1 8 8 (bytesOf 8 w) ≡ 8) ⌝ }
+{
+    if w & 0x8080808080808080 != 0 {
+        return false;
+    }
+    (w + 0x6060606060606060) & 0x8080808080808080 == 0x8080808080808080
+}
+
+// Whether each of the eight bytes of a number is from 20 to 7A hex and neither a quote nor a backslash: classes 4 to 9. Of the numbers `a` to `d`
+// each has the highest bit of a byte where one test is passed: from 20 on, no quote, no backslash, up to 7A.
+fn all_data(w: u64) -> bool
+    ensures { λ r. ⌜ (r ≡ true → runOf 4 9 8 (bytesOf 8 w) ≡ 8) ⌝ }
+{
+    if w & 0x8080808080808080 != 0 {
+        return false;
+    }
+    let a = w + 0x6060606060606060;
+    let b = (w ^ 0x2222222222222222) + 0x7F7F7F7F7F7F7F7F;
+    let c = (w ^ 0x5C5C5C5C5C5C5C5C) + 0x7F7F7F7F7F7F7F7F;
+    let d = 0xFAFAFAFAFAFAFAFA - w;
+    a & b & c & d & 0x8080808080808080 == 0x8080808080808080
+}
+
+// Whether the eight bytes from `at` on are seen at once to be of classes from `low` to `high`.
+fn block(draft: &[u8], at: usize, low: u8, high: u8) -> bool
+    requires { ⌜ at + 8 ≤ length (now draft) ⌝ }
+    ensures { λ r. ⌜ (r ≡ true → runOf low high 8 (drop at (now (draft .entry))) ≡ 8) ⌝ }
+{
+    if low <= 1 {
+        if 8 <= high {
+            return all_remark(eight(draft, at));
+        }
+    }
+    if 4 < low {
+        return false;
+    }
+    if high < 9 {
+        return false;
+    }
+    all_data(eight(draft, at))
+}
+
+// A place from which on a run ends where it ends from `at` on: behind blocks of eight bytes that are seen at once to be part of it.
+fn past_blocks(draft: &[u8], at: usize, end: usize, low: u8, high: u8) -> usize
+    requires { ⌜ (at ≤ end) × (end ≤ length (now draft)) ⌝ }
+    ensures { λ r. ⌜ (at ≤ r) × (r ≤ end) × (r + runOf low high (end - r) (drop r (now (draft .entry))) ≡ at + runOf low high (end - at) (drop at (now (draft .entry)))) ⌝ }
+{
+    let mut i = at;
+    while 8 <= end - i {
+        if !block(draft, i, low, high) {
+            return i;
+        }
+        i += 8;
+    }
+    i
+}
+
+// The same as `run`, for runs that are long: most bytes are passed over without a look at their class, eight at once.
 pub fn long_run(draft: &[u8], at: usize, end: usize, low: u8, high: u8) -> usize
     requires { ⌜ (at ≤ end) × (end ≤ length (now draft)) ⌝ }
     ensures { λ r. ⌜ r ≡ at + runOf low high (end - at) (drop at (now (draft .entry))) ⌝ }
 {
-    let mut i = at;
+    let mut i = past_blocks(draft, at, end, low, high);
     while i < end {
         if outside(draft[i], low, high) {
             return i;

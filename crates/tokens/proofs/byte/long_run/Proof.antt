@@ -1,5 +1,5 @@
 -- `tokens::long_run` meets its contract. The invariant: the place at which the definition ends the run from here is the one at which it ended it
--- from the start. Assumes nothing.
+-- from the start; `past_blocks` leaves it so. Assumes nothing.
 use mathlib.Core.Path.{_≡_, refl, sym, _∙_}
 use Prim.Native.Nat.{_+_, _-_, _≤_}
 use native.Mathlib.Omega.{arith}
@@ -19,8 +19,11 @@ Inv-loop draft at end low high i₀ i = (i + run low high (end - i) (drop i draf
 abbrev μ-loop : tie.MeasureT-loop
 μ-loop draft at end low high i₀ i = end - i
 
+past-blocks-requires : tie.Need-past-blocks-requires Inv-loop μ-loop
+past-blocks-requires c κs = search needs
+
 loop-holds : tie.Need-loop-holds Inv-loop μ-loop
-loop-holds c = (refl, c .before .pre .0, c .before .pre .1)
+loop-holds c = (c .past-blocks .ensures .2, c .past-blocks .ensures .1, c .before .before .pre .1)
 
 shared-slice-read-outside : tie.Need-shared-slice-read-outside Inv-loop μ-loop
 shared-slice-read-outside c = omega arith
@@ -30,7 +33,7 @@ outside-requires c κs = search needs
 
 returns : tie.Need-returns Inv-loop μ-loop
 returns c =
-    let a = c .before .before .before .before .before .before .args in
+    let a = c .before .before .before .before .before .before .before .args in
     let l = c .before .before .before .before .loop in
     let t = within (a .low) (a .high) (classOf (getD (a .draft .now) (l .i) 0)) in
     halted (a .low) (a .high) (a .draft .now) (l .i) (a .end) (omega arith) (not-true t (sym (c .before .outside .ensures) ∙ c .if1 .taken)) ∙ l .inv .0
@@ -43,7 +46,7 @@ loop-less c = omega arith
 
 loop-again : tie.Need-loop-again Inv-loop μ-loop
 loop-again c =
-    let a = c .before .before .before .before .before .before .args in
+    let a = c .before .before .before .before .before .before .before .args in
     let l = c .before .before .before .before .loop in
     let n = classOf (getD (a .draft .now) (l .i) 0) in
     let r = within-true (a .low) (a .high) n (not-false (within (a .low) (a .high) n) (sym (c .before .outside .ensures) ∙ c .if1 .left)) in
@@ -51,7 +54,7 @@ loop-again c =
 
 returns-2 : tie.Need-returns-2 Inv-loop μ-loop
 returns-2 c =
-    let a = c .before .before .before .args in
+    let a = c .before .before .before .before .args in
     let l = c .before .loop in
     finished (a .low) (a .high) (a .draft .now) (l .i) (a .end) (omega arith) ∙ l .inv .0
 
@@ -61,6 +64,7 @@ long-run-spec =
     (tie.spec
     Inv-loop
     μ-loop
+    past-blocks-requires
     loop-holds
     shared-slice-read-outside
     outside-requires
