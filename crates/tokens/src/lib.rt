@@ -215,7 +215,23 @@ fn closed(
     }
 }
 
-// Where plain string data that begins at `at` ends: a run of US-ASCII, or one character above it. `at` where none begins.
+// From `at` on, where characters above US-ASCII end.
+fn wide_run(draft: &[u8], at: usize, end: usize) -> usize
+    requires { ⌜ (at ≤ end) × (end ≤ length (now draft)) ⌝ }
+    ensures { λ r. ⌜ Data (now (draft .entry)) false at end r ⌝ }
+{
+    let mut i = at;
+    while i < end {
+        let n = wide(draft, i, end);
+        if n == 0 {
+            return i;
+        }
+        i += n;
+    }
+    i
+}
+
+// Where plain string data that begins at `at` ends: a run of US-ASCII, or of characters above it. `at` where none begins.
 fn plain(draft: &[u8], at: usize, end: usize) -> usize
     requires { ⌜ (at < end) × (end ≤ length (now draft)) ⌝ }
     ensures { λ r. ⌜ Data (now (draft .entry)) false at end r ⌝ }
@@ -223,7 +239,7 @@ fn plain(draft: &[u8], at: usize, end: usize) -> usize
     if draft[at] < 0x80 {
         return long_run(draft, at, end, 4, 9);
     }
-    at + wide(draft, at, end)
+    wide_run(draft, at, end)
 }
 
 // From `at` on, behind `n` clean bytes of string data, where plain data ends, as far as the limit goes; behind an odd run of backslashes at once.

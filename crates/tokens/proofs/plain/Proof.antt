@@ -1,8 +1,8 @@
--- `tokens::plain` meets its contract: a run of bytes is plain data, and so is one character above US-ASCII, or nothing. Assumes nothing.
+-- `tokens::plain` meets its contract: a run of bytes is plain data, and so are characters above US-ASCII. Assumes nothing.
 use native.Mathlib.Omega.{arith}
 use borrow.Author.Needs.{needs}
 use Rattle.tokens.specs.Runs.{Data}
-use Rattle.tokens.proofs.Strings.{run-passed, perhaps-wide}
+use Rattle.tokens.proofs.Strings.{run-passed}
 use Rattle.tokens.proofs.plain.Statement.{statement}
 use Rattle.tokens.proofs.plain.Tie as tie
 
@@ -17,20 +17,11 @@ returns c =
     let a = c .before .before .before .before .args in
     rw (c .long-run .ensures) (run-passed (a .draft .now) (a .at) (a .end) (omega arith) (omega arith))
 
-wide-requires : tie.Need-wide-requires
-wide-requires c κs = search needs
-
-add-result : tie.Need-add-result
-add-result c =
-    let a = c .before .before .before .before .args in
-    omega (arith, perhaps-wide (a .draft .now) (a .at) (a .end) (c .wide .result) (omega arith) (omega arith) (c .wide .ensures) .there)
+wide-run-requires : tie.Need-wide-run-requires
+wide-run-requires c κs = search needs
 
 returns-2 : tie.Need-returns-2
-returns-2 c =
-    let a = c .before .before .before .before .args in
-    perhaps-wide (a .draft .now) (a .at) (a .end) (c .wide .result) (omega arith) (omega arith) (c .wide .ensures)
+returns-2 c = search needs
 
 pub plain-spec : {M : Type 1} → statement M
-plain-spec =
-    tie.close
-    (tie.spec shared-slice-read-if1 long-run-requires returns wide-requires add-result returns-2)
+plain-spec = tie.close (tie.spec shared-slice-read-if1 long-run-requires returns wide-run-requires returns-2)
