@@ -1,5 +1,5 @@
-/* A C program against the library: reads a draft on standard input and shows its entities, or where and why it was refused. README.md has the
- * lines that build and run it.
+/* A C program against the library: reads a draft on standard input and shows its entities, or where and why it was refused. README.md
+ * has the lines that build and run it.
  */
 #include <inttypes.h>
 #include <stdio.h>

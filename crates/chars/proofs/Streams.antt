@@ -23,7 +23,8 @@ unfolding stream
 passed zero place bytes h = let same : place + 0 ≡ place = omega arith in rw same
 passed (suc k) place [] h = absurd (omega arith)
 passed (suc k) place (b ∷ bytes) h =
-    let same : suc place + k ≡ place + suc k = omega arith in passed k (suc place) bytes (omega arith) ∙ ap (λ p. stream 0 p (drop k bytes)) same
+    let same : suc place + k ≡ place + suc k = omega arith in passed k (suc place) bytes (omega arith) ∙ ap (λ p. stream 0 p (drop k bytes))
+    same
 
 module _ (draft : List ℕ) (i : ℕ) where
   -- the draft has ended

@@ -4,7 +4,8 @@ ghost use mathlib.Core.List.{_++_};
 ghost use Prim.Native.Nat.{_+_, _-_, _*_, _^_, _<_, _≤_};
 ghost use lib.ListN.{length, take, drop, replicate};
 ghost use Rattle.chars.specs.Choice.{same};
-ghost use Rattle.chars.specs.Character.{continued as continuedBy, lowest, highest, sequence, paired as pairedBy, judged as judgedBy, carriage, characterAt, encoded, padded};
+ghost use Rattle.chars.specs.Character.{continued as continuedBy, lowest, highest, sequence, paired as pairedBy, judged as judgedBy};
+ghost use Rattle.chars.specs.Character.{carriage, characterAt, encoded, padded};
 ghost use Rattle.chars.specs.Stream.{start as startOf};
 
 pub mod limits;

@@ -1,5 +1,5 @@
--- What the theorems say of reading, said of the call: of every answer and all buffers that meet the contract of `read` as the source has it. The
--- contract equates them with the definition, of which the theorems are.
+-- What the theorems say of reading, said of the call: of every answer and all buffers that meet the contract of `read` as the source has
+-- it. The contract equates them with the definition, of which the theorems are.
 use Prim.Native.Nat.{ℕ, _*_, _/_, _≤_}
 use mathlib.Core.Path.{_≡_, refl, sym, _∙_, ap}
 use mathlib.Core.Bool.{true}
@@ -42,7 +42,9 @@ pub record Call (draft list text : List ℕ) (a : Answer) (list′ text′ : Lis
   pub clean : Every Text Text entities
   pub visible : Every Seen Any entities
 
-of-definition : (draft list text : List ℕ) → Call draft list text (reading limits draft list text .answer) (reading limits draft list text .list) (reading limits draft list text .text)
+of-definition : (draft list text : List ℕ)
+    → Call draft list text (reading limits draft list text .answer) (reading limits draft list text .list)
+    (reading limits draft list text .text)
 unfolding reading answered
 of-definition draft list text =
     let room = roomOf list text in
@@ -66,7 +68,8 @@ module _ (κs : Lfts 3) (given : ArgsD read.signature κs) (a : ResD read.signat
 
 -- Two calls with buffers before them, answers a and b, and buffers after them.
 module _ (κs : Lfts 3) (given : ArgsD read.signature κs) (a : ResD read.signature κs) (x : AtExit (endedOf 3 kinds.ps kinds.r) κs)
-    (κs′ : Lfts 3) (given′ : ArgsD read.signature κs′) (b : ResD read.signature κs′) (y : AtExit (endedOf 3 kinds.ps kinds.r) κs′) (p : reads.Post κs given a x) (q : reads.Post κs′ given′ b y) where
+    (κs′ : Lfts 3) (given′ : ArgsD read.signature κs′) (b : ResD read.signature κs′) (y : AtExit (endedOf 3 kinds.ps kinds.r) κs′)
+    (p : reads.Post κs given a x) (q : reads.Post κs′ given′ b y) where
   -- drafts that agree through an accepted `|;`, the second within the length limit, with the same buffers
   pub through :
       given′ .1 .0 .now ≡ given .1 .0 .now → given′ .1 .1 .0 .now ≡ given .1 .1 .0 .now → length (given′ .0 .now) ≤ limits .draft
@@ -80,8 +83,12 @@ module _ (κs : Lfts 3) (given : ArgsD read.signature κs) (a : ResD read.signat
       let same :
       reading limits (given′ .0 .now) (given′ .1 .0 .now) (given′ .1 .1 .0 .now)
       ≡ reading limits (given .0 .now) (given .1 .0 .now) (given .1 .1 .0 .now) =
-      rw (same-list, same-text) e in
-      (q .0 ∙ ap (λ r. r .answer) same ∙ sym (p .0), q .1 .0 ∙ ap (λ r. r .list) same ∙ sym (p .1 .0), q .1 .1 ∙ ap (λ r. r .text) same ∙ sym (p .1 .1))
+      rw (same-list, same-text) e in (
+        q .0 ∙ ap (λ r. r .answer) same ∙ sym (p .0),
+        q .1 .0 ∙ ap (λ r. r .list) same ∙ sym (p .1 .0),
+        q .1 .1 ∙ ap (λ r. r .text) same
+            ∙ sym (p .1 .1),
+      )
 
   -- the same draft with no less room, where the first call has room enough
   pub roomier :

@@ -1,6 +1,6 @@
 -- All text that a reading holds is well formed UTF-8 without nul. Clean bytes are whole characters, each re-encoded, and a character that
--- cleaning gives is one of RFC 3629 and no nul. An entity's text is its token's, or that without the sign before a name, which is a character
--- of one byte; its string is the token's; and the other entities have neither.
+-- cleaning gives is one of RFC 3629 and no nul. An entity's text is its token's, or that without the sign before a name, which is a
+-- character of one byte; its string is the token's; and the other entities have neither.
 use mathlib.Core.Path.{_≡_}
 use mathlib.Core.Bool.{true, false}
 use mathlib.Core.List.{List, [], _++_, tail}

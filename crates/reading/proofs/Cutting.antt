@@ -1,5 +1,5 @@
--- The text that an entity has of its token's: cut from the draft at once, it is the same as the token's text with its first byte left out, since
--- that byte is a character by itself.
+-- The text that an entity has of its token's: cut from the draft at once, it is the same as the token's text with its first byte left out,
+-- since that byte is a character by itself.
 use mathlib.Core.Path.{_≡_, refl, sym, _∙_, ap}
 use mathlib.Core.List.{List, [], _∷_, _++_, tail}
 use Prim.Native.Nat.{ℕ, zero, suc, _+_, _-_, _*_, _≤_}
@@ -57,7 +57,8 @@ module _ (draft : List ℕ) (place prefix from n : ℕ) (c : Contents draft plac
   rest-raw : clean (prefix - 1) (streamAt draft (place + 1)) ≡ take (prefix - 1) (drop (place + 1) draft)
   rest-raw =
       sym tail-is
-      ∙ (ap tail (c .text-raw) ∙ rw (drop-cons draft place 0 (c .here), add-one) (tail-take prefix (getD draft place 0) (drop (suc place) draft)))
+      ∙ (ap tail (c .text-raw) ∙ rw (drop-cons draft place 0 (c .here), add-one) (tail-take prefix (getD draft place 0)
+      (drop (suc place) draft)))
 
   pub cut-clean :
       (how : ℕ) → cut how (clean prefix (streamAt draft place)) ≡ clean (cutLength how prefix) (streamAt draft (cutFrom how place))

@@ -1,5 +1,5 @@
--- What a token comes to, from its verdict: a refusal is Making's own, entities are settled, and a token behind `[` is judged with the begin group
--- that it brings already open.
+-- What a token comes to, from its verdict: a refusal is Making's own, entities are settled, and a token behind `[` is judged with the begin
+-- group that it brings already open.
 use mathlib.Core.Path.{_≡_, refl, sym, ap}
 use mathlib.Core.Bool.{Bool, true, false, not, _&&_, false≢true}
 use mathlib.Core.List.{List, _∷_}
@@ -14,7 +14,8 @@ use Rattle.tokens.proofs.Copying.{clean-zero}
 use Rattle.reading.specs.Entity.{Entity}
 use Rattle.reading.specs.Making.{Reader, Judged, Handled, stops, holds, fitted, handled, within-groups, closing}
 use Rattle.reading.specs.Judging.{bares, kindOf, meaning}
-use Rattle.reading.specs.Stepping.{Contents, Ready, openGroups, below, roomLeft, readerOf, agrees, shows, sorted, judgesAs, judgedAs, closingAs, inserted}
+use Rattle.reading.specs.Stepping.{Contents, Ready, openGroups, below, roomLeft, readerOf, agrees, shows, sorted, judgesAs, judgedAs}
+use Rattle.reading.specs.Stepping.{closingAs, inserted}
 use Rattle.reading.specs.declared.judge.Made.{Made}
 use Rattle.reading.specs.declared.judge.Verdict.{Verdict}
 use Rattle.reading.specs.declared.judge.Verdict.the-variants.{Refuses, Makes}
@@ -26,7 +27,8 @@ use Rattle.reading.proofs.Cutting.{first-byte}
 
 -- what a token did is told of a state by what that holds alone
 pub same-held :
-    (s t : State) → t .entities ≡ s .entities → t .text ≡ s .text → (h : Handled) (list text : List ℕ) (place : ℕ) (r : Step) (list′ text′ groups′ : List ℕ)
+    (s t : State) → t .entities ≡ s .entities → t .text ≡ s .text
+    → (h : Handled) (list text : List ℕ) (place : ℕ) (r : Step) (list′ text′ groups′ : List ℕ)
     → agrees h r t list text list′ text′ groups′ place → agrees h r s list text list′ text′ groups′ place
 unfolding agrees
 same-held s t e u (stops n) list text place (Stops m) list′ text′ groups′ a = a
@@ -52,7 +54,8 @@ module _ (s : State) (list text groups : List ℕ) (place sort c : ℕ) (T S : L
 
     pub went :
         (m : Made) (inner : List Entity) (r : Step) (list′ text′ groups′ : List ℕ) → v ≡ Makes m
-        → agrees (fitted (roomLeft s list text) inner (meaning (Makes m) place T S (openGroups groups (s .depth)))) r s list text list′ text′ groups′ place
+        → agrees (fitted (roomLeft s list text) inner (meaning (Makes m) place T S (openGroups groups (s .depth)))) r s list text list′
+        text′ groups′ place
         → agrees (fitted (roomLeft s list text) inner (judge (readerOf s groups))) r s list text list′ text′ groups′ place
     went m inner r list′ text′ groups′ is a = rw (sym by-verdict, is) a
 
@@ -81,7 +84,8 @@ module _ (s : State) (list text groups : List ℕ) (place sort c : ℕ) (T S : L
     pub brought :
         (pushed : List ℕ) (r : Step) (list′ text′ groups′ : List ℕ) → (length list / 6 - s .entities ≡ 0 → ⊥)
         → openGroups pushed (s .depth + 1) ≡ 1 ∷ openGroups groups (s .depth)
-        → agrees (fitted (roomLeft within list text) (bares 6 place) (judge (readerOf within pushed))) r within list text list′ text′ groups′ place
+        → agrees (fitted (roomLeft within list text) (bares 6 place) (judge (readerOf within pushed))) r within list text list′ text′
+        groups′ place
         → Comes r list′ text′ groups′
     unfolding inserted roomLeft readerOf within-groups bares kindOf
     brought pushed r list′ text′ groups′ some e a =
@@ -105,7 +109,8 @@ module _ (s : State) (list text groups : List ℕ) (place sort c : ℕ) (T S : L
 
   abbrev Handles : Step → (list′ text′ groups′ : List ℕ) → Type 0
   Handles r list′ text′ groups′ =
-      agrees (handled limits (roomLeft s list text) (readerOf s groups) (closingAs sort T) place judge) r s list text list′ text′ groups′ place
+      agrees (handled limits (roomLeft s list text) (readerOf s groups) (closingAs sort T) place judge) r s list text list′ text′ groups′
+      place
 
   pub behind-open :
       (r : Step) (list′ text′ groups′ : List ℕ) → (s .opened && not (closingAs sort T)) ≡ true → Comes r list′ text′ groups′

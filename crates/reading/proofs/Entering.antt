@@ -1,5 +1,5 @@
--- A word where no metacommand is open, against Making: right behind `[` it is judged with the begin group that it brings open. Where there is no room
--- for that group there is none for the two, and both are 18, so that the two are counted at once.
+-- A word where no metacommand is open, against Making: right behind `[` it is judged with the begin group that it brings open. Where there
+-- is no room for that group there is none for the two, and both are 18, so that the two are counted at once.
 use mathlib.Core.Path.{_≡_, refl}
 use mathlib.Core.Bool.{Bool, true, false, _&&_}
 use mathlib.Core.List.{List, _∷_}
@@ -32,7 +32,8 @@ module _ (s : State) (list text groups : List ℕ) (place : ℕ) where
     abbrev comes : Handled
     comes = handled limits (roomLeft s list text) (readerOf s groups) false place (λ q. adds q (word place T))
 
-    pub too-many : (s .opened && leb 64 (s .depth)) ≡ true → (groups′ : List ℕ) → agrees comes (Stops 17) s list text list text groups′ place
+    pub too-many : (s .opened && leb 64 (s .depth)) ≡ true → (groups′ : List ℕ)
+        → agrees comes (Stops 17) s list text list text groups′ place
     unfolding handled readerOf agrees
     too-many t groups′ =
         let b = both (s .opened) (leb 64 (s .depth)) t in
@@ -52,9 +53,11 @@ module _ (s : State) (list text groups : List ℕ) (place : ℕ) where
         (λ t. rw (t, regularly))
 
     pub entered :
-        (s .opened ≡ true → s .depth < 64) → (pushed : List ℕ) → openGroups pushed (enteredBy s .depth) ≡ more → (r : Step) (list′ text′ : List ℕ)
+        (s .opened ≡ true → s .depth < 64) → (pushed : List ℕ) → openGroups pushed (enteredBy s .depth) ≡ more
+        → (r : Step) (list′ text′ : List ℕ)
         → agrees (fitted (roomLeft (enteredBy s) list text) (bares (if s .opened then 6 else 0) place)
-        (adds (record { metacommand = false; opened = false; groups = openGroups pushed (enteredBy s .depth) }) (word place T))) r (enteredBy s) list text
+        (adds (record { metacommand = false; opened = false; groups = openGroups pushed (enteredBy s .depth) }) (word place T))) r
+        (enteredBy s) list text
         list′ text′ pushed place
         → agrees comes r s list text list′ text′ pushed place
     unfolding enteredBy within-groups roomLeft

@@ -1,5 +1,5 @@
--- Clean bytes in the text buffer: the copier fills the front of the part that it is lent, and the part goes back into its place, so what stands
--- before it and behind the new bytes is as it was.
+-- Clean bytes in the text buffer: the copier fills the front of the part that it is lent, and the part goes back into its place, so what
+-- stands before it and behind the new bytes is as it was.
 use mathlib.Core.Path.{_≡_, _∙_, ap}
 use mathlib.Core.List.{List, [], _∷_, _++_, append-nil}
 use Prim.Native.Nat.{ℕ, suc, _+_, _-_, _<_, _≤_}

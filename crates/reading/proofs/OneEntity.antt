@@ -1,5 +1,5 @@
--- A token of one entity whose text stands in the draft as it is, behind an inserted begin group or none, against Making: counting finds what does not
--- fit, and what fits is its six numbers and its bytes.
+-- A token of one entity whose text stands in the draft as it is, behind an inserted begin group or none, against Making: counting finds
+-- what does not fit, and what fits is its six numbers and its bytes.
 use mathlib.Core.Path.{_≡_, refl, sym, _∙_, ap}
 use mathlib.Core.Bool.{false}
 use mathlib.Core.List.{List, [], _∷_, _++_}
@@ -13,7 +13,8 @@ use Rattle.chars.specs.Stream.{streamAt, clean}
 use Rattle.tokens.proofs.Copying.{clean-zero}
 use Rattle.reading.specs.Entity.{Entity}
 use Rattle.reading.specs.Making.{Handled, fitted}
-use Rattle.reading.specs.Judging.{one, bares, madeEntities, madeCount, madeSize, cutLength, cutFrom, shortOf, tokenEntities, meaning, single, filled, groupsAfter, written, textWritten}
+use Rattle.reading.specs.Judging.{one, bares, madeEntities, madeCount, madeSize, cutLength, cutFrom, shortOf, tokenEntities, meaning}
+use Rattle.reading.specs.Judging.{single, filled, groupsAfter, written, textWritten}
 use Rattle.reading.specs.Stepping.{Contents, Ready, openGroups, roomLeft, agrees}
 use Rattle.reading.specs.declared.judge.Made.{Made}
 use Rattle.reading.specs.declared.judge.Verdict.the-variants.{Makes}
@@ -72,7 +73,8 @@ module _ (draft : List ℕ) (lead : ℕ) (m : Made) (place n : ℕ) (c : Content
   all-is = rw (no-bare (m .first) place no-first) (ap (λ l. bares lead place ++ l) (last-one draft place n 0 0 c m some-last))
 
   abbrev comes : Handled
-  comes = fitted (roomLeft s list text) (bares lead place) (meaning (Makes m) place (clean n (streamAt draft place)) [] (openGroups groups (s .depth)))
+  comes = fitted (roomLeft s list text) (bares lead place) (meaning (Makes m) place (clean n (streamAt draft place)) []
+      (openGroups groups (s .depth)))
 
   module _ (ready : Ready s list text groups place) where
     pub no-room : length list - 6 * s .entities < 6 * (one lead + 1) → agrees comes (Stops 18) s list text list text groups place
@@ -88,7 +90,8 @@ module _ (draft : List ℕ) (lead : ℕ) (m : Made) (place n : ℕ) (c : Content
       pub no-bytes : length text - s .text < size → agrees comes (Stops 19) s list text list text groups place
       no-bytes h =
           rw (sym (clean-zero (streamAt draft 0)))
-          (refused-as draft lead m place n 0 0 c s list text groups 19 groups (sym (short-is ∙ rw (enough-list, lt-ltb (length text - s .text) size h))) (λ e. omega arith))
+          (refused-as draft lead m place n 0 0 c s list text groups 19 groups
+          (sym (short-is ∙ rw (enough-list, lt-ltb (length text - s .text) size h))) (λ e. omega arith))
 
       module _ (bytes : size ≤ length text - s .text) where
         pub held-one :
@@ -97,7 +100,13 @@ module _ (draft : List ℕ) (lead : ℕ) (m : Made) (place n : ℕ) (c : Content
             → list′ ≡ take (held * 6) list₁ ++ ((m .last ∷ place ∷ s .text ∷ size ∷ 0 ∷ 0 ∷ []) ++ drop (held * 6 + 6) list₁)
             → text′ ≡ take (s .text) text ++ (take size (drop from draft) ++ drop (s .text + size) text)
             → agrees comes
-            (Goes (record { metacommand = m .metacommand; opened = m .opened; depth = s .depth; entities = held + 1; text = s .text + size })) s
+            (Goes (record {
+              metacommand = m .metacommand;
+              opened = m .opened;
+              depth = s .depth;
+              entities = held + 1;
+              text = s .text + size;
+            })) s
             list text list′ text′ groups place
         unfolding filled groupsAfter
         held-one small kinds list₁ list′ text′ held h l₁ l t =
@@ -107,7 +116,8 @@ module _ (draft : List ℕ) (lead : ℕ) (m : Made) (place n : ℕ) (c : Content
             let kind = number-of-kind (m .last) (positive (m .last) some-last) kinds in
             let numbers :
             (m .last ∷ place ∷ s .text ∷ size ∷ 0 ∷ 0 ∷ [])
-            ≡ (m .last ∷ place ∷ s .text ∷ length (clean size (streamAt draft from)) ∷ length (clean 0 (streamAt draft 0)) ∷ m .count ∷ []) =
+            ≡ (m .last ∷ place ∷ s .text ∷ length (clean size (streamAt draft from)) ∷ length (clean 0 (streamAt draft 0)) ∷ m .count ∷ [])
+            =
             rw (long, none, no-count) in
             let listed : list′ ≡ written list (s .entities) (s .text) (tokenEntities draft lead m place n 0 0) =
             l
@@ -118,12 +128,14 @@ module _ (draft : List ℕ) (lead : ℕ) (m : Made) (place n : ℕ) (c : Content
             let middle : text′ ≡ take (s .text) text ++ (clean size (streamAt draft from) ++ drop (s .text + size) text) =
             rw (cut-raw draft place n 0 0 c (m .text)) t in
             let texted =
-            both-filled draft (m .last) place from size 0 0 (m .count) text (s .text) text′ text′ (omega (arith, ready .used)) long (ap length none) middle
+            both-filled draft (m .last) place from size 0 0 (m .count) text (s .text) text′ text′ (omega (arith, ready .used)) long
+            (ap length none) middle
             (rw (none, same) (sym (take-append-drop (s .text + size) text′)))
             ∙ (sym (bare-text text (s .text) lead place (own ∷ [])) ∙ ap (textWritten text (s .text)) (sym all-is)) in
             let many : held + 1 ≡ s .entities + length (tokenEntities draft lead m place n 0 0) =
             omega (arith, h, ap length all-is, length-append (bares lead place) (own ∷ [])) in
             let enough : short ≡ 0 = short-is ∙ rw (enough-list, le-ltb (length text - s .text) size bytes) in
             rw (sym none)
-            (allowed-as draft lead m place n 0 0 c s list text groups enough ready small (omega arith) list′ text′ groups (held + 1) size (s .depth)
+            (allowed-as draft lead m place n 0 0 c s list text groups enough ready small (omega arith) list′ text′ groups (held + 1) size
+            (s .depth)
             listed texted many (sym size-is) (rw (eq-eqb (m .groups) 0 no-change)) (ready .deep) (ready .array))

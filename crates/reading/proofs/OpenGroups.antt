@@ -1,5 +1,5 @@
--- The open groups as a list: what is stored past them changes nothing, what is stored right behind them is one more, and the innermost is the
--- last of the array's open numbers.
+-- The open groups as a list: what is stored past them changes nothing, what is stored right behind them is one more, and the innermost is
+-- the last of the array's open numbers.
 use mathlib.Core.Path.{_≡_, refl, ap}
 use mathlib.Core.List.{List, [], _∷_, tail}
 use Prim.Native.Nat.{ℕ, zero, suc, _+_, _-_, _<_, _≤_}

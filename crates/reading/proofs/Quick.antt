@@ -1,5 +1,5 @@
--- Whitespace is passed over, and one of the bytes of groups and arrays is a token by itself: what the definition reads at such a byte is known without
--- looking further. A word is judged as one in every regular mode.
+-- Whitespace is passed over, and one of the bytes of groups and arrays is a token by itself: what the definition reads at such a byte is
+-- known without looking further. A word is judged as one in every regular mode.
 use mathlib.Core.Path.{_≡_, refl, sym, _∙_, ap}
 use mathlib.Core.Bool.{Bool, true, false, not, _&&_, _||_, true≢false}
 use mathlib.Core.List.{List, [], _∷_}
@@ -27,7 +27,8 @@ use Rattle.reading.specs.Entity.{sizes}
 use Rattle.reading.specs.Making.{Reader, Room, fitted, handled, adds, word, regular, judged, closing, within-groups, shortage}
 use Rattle.reading.specs.Judging.{bares}
 use Rattle.reading.specs.Reading.{before, entities}
-use Rattle.reading.specs.Stepping.{Contents, Ready, Steady, openGroups, roomLeft, readerOf, agrees, judgedAs, closingAs, pieceOf, ahead}
+use Rattle.reading.specs.Stepping.{Contents, Ready, Steady, openGroups, roomLeft, readerOf, agrees, judgedAs, closingAs, pieceOf}
+use Rattle.reading.specs.Stepping.{ahead}
 use Rattle.reading.specs.Rounds.{isAtom, behindOf, goesRound}
 use Rattle.reading.specs.declared.Piece.{Piece}
 use Rattle.reading.specs.declared.step.State.{State}
@@ -70,7 +71,8 @@ module _ (draft : List ℕ) (at : ℕ) (there : at < length draft) where
       let p3 = both (visible b) _ (p2 .1) in
       let p4 = both (not (inclusive b)) _ (p3 .1) in
       let p5 = both (atomic b) _ (p4 .1) in
-      alone limits draft at b (at + 1) (lone (leb-true 1 (classOf b) (p5 .1))) (not-true (white b) (p1 .0)) (not-true (eqb b 0x23) (p2 .0)) (p3 .0)
+      alone limits draft at b (at + 1) (lone (leb-true 1 (classOf b) (p5 .1))) (not-true (white b) (p1 .0)) (not-true (eqb b 0x23) (p2 .0))
+      (p3 .0)
       (not-true (inclusive b) (p4 .0)) (p5 .0)
 
   blank-here :
@@ -102,13 +104,16 @@ module _ (draft list text groups : List ℕ) (s : State) (at end n : ℕ) (is : 
       (r : Step) (list′ text′ groups′ : List ℕ)
       → agrees (handled limits (roomLeft s list text) (readerOf s groups) (closingAs 0 (clean n (streamAt draft at))) at
       (λ q. judgedAs 0 q at (clean n (streamAt draft at)) [])) r s list text list′ text′ groups′ at
-      → length list′ ≡ length list → length text′ ≡ length text → goesRound draft list text groups s at (behindOf r s at end) list′ text′ groups′
+      → length list′ ≡ length list → length text′ ≡ length text
+      → goesRound draft list text groups s at (behindOf r s at end) list′ text′ groups′
   unfolding pieceOf
   simple-on r list′ text′ groups′ a l u =
-      behind-here draft list text groups s at f same some list′ text′ groups′ r (rw (clean-zero (streamAt draft 0)) a) l u (λ e. omega arith)
+      behind-here draft list text groups s at f same some list′ text′ groups′ r (rw (clean-zero (streamAt draft 0)) a) l u
+      (λ e. omega arith)
 
 module _ (draft list text groups : List ℕ) (s : State) (at : ℕ) (there : at < length draft) (ready : Ready s list text groups at) where
-  pub blank-on : white (getD draft at 0) ≡ true → 1 ≤ classOf (getD draft at 0) → goesRound draft list text groups s at (On s (at + 1)) list text groups
+  pub blank-on : white (getD draft at 0) ≡ true → 1 ≤ classOf (getD draft at 0)
+      → goesRound draft list text groups s at (On s (at + 1)) list text groups
   unfolding goesRound ahead before sizes
   blank-on w own = (
     record {
@@ -152,7 +157,8 @@ module _ (draft list text groups : List ℕ) (s : State) (at : ℕ) (there : at 
 
   begins-array :
       s .metacommand ≡ false → (T : List ℕ) → getD T 0 0 ≡ 0x5B
-      → agrees (fitted (roomLeft s list text) (bares 0 at) (judgedAs 0 (readerOf s groups) at T [])) (Goes begun) s list text list text groups at
+      → agrees (fitted (roomLeft s list text) (bares 0 at) (judgedAs 0 (readerOf s groups) at T [])) (Goes begun) s list text list text
+      groups at
   unfolding agrees fitted judgedAs judged regular readerOf roomLeft bares shortage sizes
   begins-array regularly T e =
       rw (regularly, e) (
@@ -165,11 +171,20 @@ module _ (draft list text groups : List ℕ) (s : State) (at : ℕ) (there : at 
             let much : length text - s .text - 0 ≡ length text - s .text = omega arith in
             rw (many, much)),
         later _ list text groups at (at + 1) (omega arith)
-            (record { deep = ready .deep; array = ready .array; held = ready .held; used = ready .used; small = ready .small; numbers = ready .numbers }),
+            (record {
+              deep = ready .deep;
+              array = ready .array;
+              held = ready .held;
+              used = ready .used;
+              small = ready .small;
+              numbers =
+                  ready .numbers;
+            }),
       )
 
   pub array-on :
-      getD draft at 0 ≡ 0x5B → s .metacommand ≡ false → s .opened ≡ false → goesRound draft list text groups s at (On begun (at + 1)) list text groups
+      getD draft at 0 ≡ 0x5B → s .metacommand ≡ false → s .opened ≡ false
+      → goesRound draft list text groups s at (On begun (at + 1)) list text groups
   unfolding test white visible inclusive atomic classOf exclusive legal behindOf
   array-on e regularly unopened =
       lone-on (rw e) unopened (Goes begun) list groups (λ T is. begins-array regularly T (is ∙ e)) refl
@@ -186,11 +201,23 @@ judged-word :
     → judgedAs 0 q place T [] ≡ adds q (word place T)
 unfolding judgedAs judged regular atomic
 judged-word q place T b e is m =
-    rw (m, e, other b 0x25 is refl, other b 0x3B is refl, other b 0x28 is refl, other b 0x29 is refl, other b 0x5B is refl, other b 0x2C is refl, other b 0x5D is refl)
+    rw (
+      m,
+      e,
+      other b 0x25 is refl,
+      other b 0x3B is refl,
+      other b 0x28 is refl,
+      other b 0x29 is refl,
+      other b 0x5B is refl,
+      other b 0x2C is
+          refl,
+      other b 0x5D is refl,
+    )
 
 handled-word :
     (room : Room) (q : Reader) (place : ℕ) (T : List ℕ) (b : ℕ) → getD T 0 0 ≡ b → classOf b ≡ 4 → q .metacommand ≡ false
-    → handled limits room q (closingAs 0 T) place (λ p. judgedAs 0 p place T []) ≡ handled limits room q false place (λ p. adds p (word place T))
+    → handled limits room q (closingAs 0 T) place (λ p. judgedAs 0 p place T []) ≡ handled limits room q false place
+    (λ p. adds p (word place T))
 unfolding handled closingAs closing within-groups atomic
 handled-word room q place T b e is m =
     rw (e, other b 0x5D is refl, judged-word q place T b e is m, judged-word (within-groups (1 ∷ q .groups)) place T b e is refl)
@@ -208,9 +235,11 @@ module _ (draft list text groups : List ℕ) (s : State) (at end : ℕ) (is : to
   pub word-on :
       at < end → classOf (getD draft at 0) ≡ 4 → s .metacommand ≡ false → (r : Step) (list′ text′ groups′ : List ℕ)
       → (getD (clean (end - at) (streamAt draft at)) 0 0 ≡ getD draft at 0 → s .metacommand ≡ false
-      → agrees (handled limits (roomLeft s list text) (readerOf s groups) false at (λ q. adds q (word at (clean (end - at) (streamAt draft at))))) r s list text
+      → agrees (handled limits (roomLeft s list text) (readerOf s groups) false at
+      (λ q. adds q (word at (clean (end - at) (streamAt draft at))))) r s list text
       list′ text′ groups′ at)
-      → length list′ ≡ length list → length text′ ≡ length text → goesRound draft list text groups s at (behindOf r s at end) list′ text′ groups′
+      → length list′ ≡ length list → length text′ ≡ length text
+      → goesRound draft list text groups s at (behindOf r s at end) list′ text′ groups′
   unfolding readerOf
   word-on on four regularly r list′ text′ groups′ a l u =
       let T = clean (end - at) (streamAt draft at) in

@@ -144,8 +144,10 @@ front list text r =
     (rw (← rows-length 0 es) (take-append-seam (rows 0 es) _), rw (← texts-length es) (take-append-seam (texts es) _))
 
 -- so the call, with larger buffers, has the same answer, and holds the same
-module _ (L : Limits) (draft list text list′ text′ : List ℕ) (more : length list / 6 ≤ length list′ / 6) (longer : length text ≤ length text′) where
-  read-alike : Other (reading L draft list text .answer .number) → readWith L (roomOf list′ text′) draft ≡ readWith L (roomOf list text) draft
+module _ (L : Limits) (draft list text list′ text′ : List ℕ) (more : length list / 6 ≤ length list′ / 6)
+    (longer : length text ≤ length text′) where
+  read-alike : Other (reading L draft list text .answer .number)
+      → readWith L (roomOf list′ text′) draft ≡ readWith L (roomOf list text) draft
   unfolding reading answered roomOf
   read-alike = read-roomier L draft (roomOf list text) (roomOf list′ text′) (record { more = more; longer = longer })
 

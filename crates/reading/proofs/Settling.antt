@@ -1,5 +1,5 @@
--- A token that its rules allow, against Making: what does not fit is refused by the number that counting finds, and what fits leaves the room, the
--- groups and the buffers as Making says.
+-- A token that its rules allow, against Making: what does not fit is refused by the number that counting finds, and what fits leaves the
+-- room, the groups and the buffers as Making says.
 use mathlib.Core.Path.{_≡_, refl, sym, _∙_, ap}
 use mathlib.Core.List.{List, tail}
 use Prim.Native.Nat.{ℕ, _+_, _-_, _*_, _≤_, _/_}
@@ -32,7 +32,8 @@ below-after change gs m b =
     (either (eqb change 1)
     (λ u. rw u (omega arith, higher gs m (m + 1) (omega arith) b))
     (λ u.
-    rw u (either (eqb change 2) (λ v. rw v (higher (tail gs) m (m + 1) (omega arith) (below-tail gs m b))) (λ v. rw v (below-next gs m b))))))
+    rw u (either (eqb change 2) (λ v. rw v (higher (tail gs) m (m + 1) (omega arith) (below-tail gs m b)))
+    (λ v. rw v (below-next gs m b))))))
 
 module _ (draft : List ℕ) (lead : ℕ) (m : Made) (place prefix from n : ℕ) (c : Contents draft place prefix from n) (s : State)
     (list text groups : List ℕ) where
@@ -76,7 +77,8 @@ module _ (draft : List ℕ) (lead : ℕ) (m : Made) (place prefix from n : ℕ) 
         → bytes ≡ madeSize m prefix n → openGroups groups′ depth ≡ groupsAfter (m .groups) (openGroups groups (s .depth)) → depth ≤ 64
         → length groups′ ≡ 64
         → agrees comes
-        (Goes (record { metacommand = m .metacommand; opened = m .opened; depth = depth; entities = held; text = s .text + bytes })) s list text list′
+        (Goes (record { metacommand = m .metacommand; opened = m .opened; depth = depth; entities = held; text = s .text + bytes })) s list
+        text list′
         text′ groups′ place
     unfolding agrees readerOf roomLeft
     allowed-as hp hn list′ text′ groups′ held bytes depth l t h b g o k =

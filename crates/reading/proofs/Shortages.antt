@@ -1,4 +1,5 @@
--- Of a token's entities only the last has text, so the first that does not fit is found by counting: there are too many, or that text is too long.
+-- Of a token's entities only the last has text, so the first that does not fit is found by counting: there are too many, or that text is
+-- too long.
 use mathlib.Core.Path.{_≡_, sym, _∙_, ap}
 use mathlib.Core.List.{List, [], _∷_, _++_}
 use Prim.Native.Nat.{ℕ, suc, _+_, _-_, _≤_}
@@ -97,7 +98,8 @@ module _ (draft : List ℕ) (lead : ℕ) (m : Made) (place prefix from n : ℕ) 
   own-counts : (T : ℕ) → Counts T own
   own-counts T E =
       either (eqb (m .last) 0)
-      (λ k. rw (no-last m place (clean prefix (streamAt draft place)) (clean n (streamAt draft from)) (eqb-true (m .last) 0 k)) (none-counts T E))
+      (λ k. rw (no-last m place (clean prefix (streamAt draft place)) (clean n (streamAt draft from)) (eqb-true (m .last) 0 k))
+      (none-counts T E))
       (λ k. rw (last-one draft place prefix from n c m (eqb-false (m .last) 0 k)) (one-counts T _ E))
 
   pub shortage-is :

@@ -1,5 +1,5 @@
--- What holds of every token's text, of that without its first byte and of its data, and of nothing, holds of all text and data of the entities:
--- an entity has its token's text, or that without its first byte, or none, and its token's data or none.
+-- What holds of every token's text, of that without its first byte and of its data, and of nothing, holds of all text and data of the
+-- entities: an entity has its token's text, or that without its first byte, or none, and its token's data or none.
 use mathlib.Core.Path.{_≡_, refl, sym, subst}
 use mathlib.Core.Bool.{Bool, true, false, not, _&&_, _||_}
 use mathlib.Core.List.{List, [], _∷_, _++_, tail}

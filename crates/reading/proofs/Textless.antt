@@ -1,4 +1,5 @@
--- A token whose entities have no text, against Making: no draft and no text buffer bears on it, so what Settling says of any draft is said of it.
+-- A token whose entities have no text, against Making: no draft and no text buffer bears on it, so what Settling says of any draft is said
+-- of it.
 use mathlib.Core.Path.{_≡_, refl, sym, _∙_, ap}
 use mathlib.Core.Bool.{true, false}
 use mathlib.Core.List.{List, [], _∷_, _++_}
@@ -13,8 +14,10 @@ use Rattle.chars.specs.Stream.{streamAt, clean}
 use Rattle.chars.proofs.Cases.{either}
 use Rattle.tokens.proofs.Copying.{clean-zero}
 use Rattle.reading.specs.Entity.{Entity, size, sizes, texts}
-use Rattle.reading.specs.Making.{Judged, Handled, fitted, within-groups, group-begins, group-ends, element-ends, array-ends, regular, judged}
-use Rattle.reading.specs.Judging.{one, bares, kindOf, cut, lasts, madeEntities, madeCount, madeSize, cutLength, shortOf, tokenEntities, meaning, textless, groupsAfter, written, textWritten}
+use Rattle.reading.specs.Making.{Judged, Handled, fitted, within-groups, group-begins, group-ends, element-ends, array-ends, regular}
+use Rattle.reading.specs.Making.{judged}
+use Rattle.reading.specs.Judging.{one, bares, kindOf, cut, lasts, madeEntities, madeCount, madeSize, cutLength, shortOf}
+use Rattle.reading.specs.Judging.{tokenEntities, meaning, textless, groupsAfter, written, textWritten}
 use Rattle.reading.specs.Stepping.{Contents, Ready, openGroups, readerOf, roomLeft, agrees, judgedAs}
 use Rattle.reading.specs.Rounds.{isAtom}
 use Rattle.reading.specs.declared.judge.Made.{Made}
@@ -75,7 +78,8 @@ module _ (m : Made) (place : ℕ) (s : State) (list text groups T : List ℕ) (p
   all-is = rw (no-text, ne-eqb (m .last) 0 some-last, clean-zero (streamAt draft 0))
 
   same-meaning :
-      (gs : List ℕ) → meaning (Makes m) place T [] gs ≡ meaning (Makes m) place (clean 0 (streamAt draft place)) (clean 0 (streamAt draft 0)) gs
+      (gs : List ℕ) → meaning (Makes m) place T [] gs ≡ meaning (Makes m) place (clean 0 (streamAt draft place))
+      (clean 0 (streamAt draft 0)) gs
   unfolding meaning madeEntities lasts cut
   same-meaning gs = rw (no-text, clean-zero (streamAt draft 0))
 
@@ -103,7 +107,8 @@ module _ (m : Made) (place : ℕ) (s : State) (list text groups T : List ℕ) (p
 
   module _ (ready : Ready s list text groups place) where
     pub bare-stops :
-        (groups′ : List ℕ) → length list < 6 * (s .entities + (one (m .first) + 1)) → agrees comes (Stops 18) s list text list text groups′ place
+        (groups′ : List ℕ) → length list < 6 * (s .entities + (one (m .first) + 1))
+        → agrees comes (Stops 18) s list text list text groups′ place
     bare-stops groups′ h =
         let few = lt-ltb (length list / 6 - s .entities) (one (m .first) + 1) (omega (arith, ready .held)) in
         rw (same-meaning (openGroups groups (s .depth)))
@@ -115,11 +120,13 @@ module _ (m : Made) (place : ℕ) (s : State) (list text groups T : List ℕ) (p
 
       pub bare-goes :
           (list′ groups′ : List ℕ) (held depth : ℕ) → m .last ≤ 17
-          → (list₁ : List ℕ) → held ≡ s .entities + length (bares (m .first) place) → list₁ ≡ written list (s .entities) (s .text) (bares (m .first) place)
+          → (list₁ : List ℕ) → held ≡ s .entities + length (bares (m .first) place)
+          → list₁ ≡ written list (s .entities) (s .text) (bares (m .first) place)
           → list′ ≡ take (held * 6) list₁ ++ ((m .last ∷ place ∷ s .text ∷ 0 ∷ 0 ∷ m .count ∷ []) ++ drop (held * 6 + 6) list₁)
           → openGroups groups′ depth ≡ groupsAfter (m .groups) (openGroups groups (s .depth)) → depth ≤ 64 → length groups′ ≡ 64
           → agrees comes
-          (Goes (record { metacommand = m .metacommand; opened = m .opened; depth = depth; entities = held + 1; text = s .text })) s list text list′
+          (Goes (record { metacommand = m .metacommand; opened = m .opened; depth = depth; entities = held + 1; text = s .text })) s list
+          text list′
           text groups′ place
       bare-goes list′ groups′ held depth small list₁ h l₁ l g o k =
           let count = bare-count (m .first) place in
@@ -135,7 +142,8 @@ module _ (m : Made) (place : ℕ) (s : State) (list text groups T : List ℕ) (p
           omega (arith, h, ap length all-is, length-append (bares (m .first) place) (last-one ∷ [])) in
           rw (same-meaning (openGroups groups (s .depth)))
           (rw same at
-          (allowed-as draft 0 m place 0 0 0 contents s list text groups enough ready (omega arith) (omega arith) list′ text groups′ (held + 1) 0 depth whole unwritten
+          (allowed-as draft 0 m place 0 0 0 contents s list text groups enough ready (omega arith) (omega arith) list′ text groups′
+          (held + 1) 0 depth whole unwritten
           all-count (sym size-is) g o k))
 
 -- What one of the four bytes comes to where neither a metacommand is open nor an array has just begun.

@@ -1,5 +1,5 @@
--- No second answer satisfies the call's contract: it says of the answer and of each buffer what it is, and that is one thing. The lemma is about
--- the contract of `read` as the source has it.
+-- No second answer satisfies the call's contract: it says of the answer and of each buffer what it is, and that is one thing. The lemma is
+-- about the contract of `read` as the source has it.
 use mathlib.Core.Path.{_≡_, sym, _∙_}
 use contract.Lifetimes.{Lfts}
 use borrow.Fn.World.{ArgsD, ResD}

@@ -1,5 +1,5 @@
--- The text of every entity, a prefix, a name, a number or an operation, is visible US-ASCII alone. A token begins with a visible character and
--- goes on only with legal ones that are not exclusive, and whitespace is exclusive; so each is one byte, 21 to 7E.
+-- The text of every entity, a prefix, a name, a number or an operation, is visible US-ASCII alone. A token begins with a visible character
+-- and goes on only with legal ones that are not exclusive, and whitespace is exclusive; so each is one byte, 21 to 7E.
 use mathlib.Core.Path.{_≡_, refl, sym, _∙_, ap, subst}
 use mathlib.Core.Bool.{Bool, true, false, not, _&&_, false≢true}
 use mathlib.Core.List.{List, [], _∷_, _++_, tail, append-assoc}
@@ -17,7 +17,8 @@ use Rattle.chars.proofs.Cases.{either, both}
 use Rattle.chars.proofs.Extent.{encoded-one}
 use Rattle.tokens.specs.Sorts.{visible, white, atomic, exclusive, inclusive, legal}
 use Rattle.tokens.specs.Tokens.{Whole, Tokens, State, between, comment, bar, word, string}
-use Rattle.tokens.specs.Tokens.{Outcome, goes, gives, ends, refuses, simply, closed, opens, begins, continues, inside, down, step, follows, tokens}
+use Rattle.tokens.specs.Tokens.{Outcome, goes, gives, ends, refuses, simply, closed, opens, begins, continues, inside, down, step, follows}
+use Rattle.tokens.specs.Tokens.{tokens}
 use Rattle.tokens.proofs.Table.{holds, if-then, so}
 use Rattle.tokens.proofs.Classes.{foreign}
 use Rattle.tokens.proofs.Skipping.{by-character, reaches}

@@ -1,5 +1,5 @@
--- The tokens of a draft one after another: what is read so far stands in the buffers, and what is still to be read is what the definition reads from
--- here on. One token moves some of the second to the first.
+-- The tokens of a draft one after another: what is read so far stands in the buffers, and what is still to be read is what the definition
+-- reads from here on. One token moves some of the second to the first.
 use mathlib.Core.Path.{_≡_, refl, sym, _∙_, ap}
 use mathlib.Core.Bool.{false}
 use mathlib.Core.List.{List, [], _++_, append-nil, append-assoc}
@@ -17,8 +17,10 @@ use Rattle.tokens.proofs.Copying.{clean-zero}
 use Rattle.reading.specs.Entity.{Entity, sizes, texts, rows}
 use Rattle.reading.specs.Making.{Reader, Room, Handled, stops, holds, handled, closing, judged}
 use Rattle.reading.specs.Judging.{written, textWritten}
-use Rattle.reading.specs.Reading.{Read, refusal, success, before, taken, textOf, stringOf, entities, readWith, reading, answered, roomOf}
-use Rattle.reading.specs.Stepping.{Contents, Ready, unchanged, openGroups, below, roomLeft, readerOf, agrees, sorted, judgedAs, closingAs, pieceOf, SoFar, ahead}
+use Rattle.reading.specs.Reading.{Read, refusal, success, before, taken, textOf, stringOf, entities, readWith, reading, answered}
+use Rattle.reading.specs.Reading.{roomOf}
+use Rattle.reading.specs.Stepping.{Contents, Ready, unchanged, openGroups, below, roomLeft, readerOf, agrees, sorted, judgedAs}
+use Rattle.reading.specs.Stepping.{closingAs, pieceOf, SoFar, ahead}
 use Rattle.reading.specs.Rounds.{Went, goesRound, behindOf, endedOf}
 use Rattle.reading.specs.declared.Answer.{Answer}
 use Rattle.reading.specs.declared.Piece.{Piece}
@@ -46,7 +48,8 @@ pub record Taken (draft : List ℕ) (at : ℕ) (f : Piece) (ts : Tokens) : Type 
       ≡ taken (f .place)
       (handled limits room r (closingAs (f .sort) (clean (f .prefix) (streamAt draft (f .place)))) (f .place)
       (λ q. judgedAs (f .sort) q (f .place) (clean (f .prefix) (streamAt draft (f .place))) (clean (f .bytes) (streamAt draft (f .from)))))
-      (λ room r. if eqb (f .sort) 3 then success (f .after) else entities limits draft room r (tokens limits between (streamAt draft (f .after))))
+      (λ room r. if eqb (f .sort) 3 then success (f .after) else entities limits draft room r
+      (tokens limits between (streamAt draft (f .after))))
 
 module _ (draft : List ℕ) (at : ℕ) where
   pub token-limit : 1 ≤ limits .token
@@ -56,7 +59,14 @@ module _ (draft : List ℕ) (at : ℕ) where
       (w : Whole) (from n : ℕ) → Sound limits token-limit draft at w → length (clean n (streamAt draft from)) ≡ n
       → Contents draft (w .place) (w .prefix) from n
   contains w from n so long =
-      record { here = omega (arith, so .on, so .there); text-long = so .text-long; text-raw = so .text-raw; string-long = long; own = so .own }
+      record {
+        here = omega (arith, so .on, so .there);
+        text-long = so .text-long;
+        text-raw = so .text-raw;
+        string-long = long;
+        own =
+            so .own;
+      }
 
   whole :
       (w : Whole) (sort : Sort) → w .sort ≡ sort → Sound limits token-limit draft at w
@@ -105,7 +115,8 @@ module _ (draft : List ℕ) (at : ℕ) where
         comes = λ room r. refl;
       })
 
-  finally : (place after : ℕ) → at ≤ place → place < after → after ≤ length draft → Taken draft at (pieceOf (first (last place after))) (last place after)
+  finally : (place after : ℕ) → at ≤ place → place < after → after ≤ length draft
+      → Taken draft at (pieceOf (first (last place after))) (last place after)
   unfolding pieceOf first sorted entities closingAs judgedAs
   finally place after b o t =
       record {
@@ -189,10 +200,12 @@ module _ (draft list₀ text₀ list text groups : List ℕ) (s : State) (at : �
   all-list : list′ ≡ written list₀ 0 0 es
   all-list =
       w .list-is
-      ∙ rw (so .list-is, first-many, first-much) (written-more list₀ 0 0 (so .es) (w .es) (omega (arith, so .ready .held, so .same-list, so .many)))
+      ∙ rw (so .list-is, first-many, first-much) (written-more list₀ 0 0 (so .es) (w .es)
+      (omega (arith, so .ready .held, so .same-list, so .many)))
 
   all-text : text′ ≡ textWritten text₀ 0 es
-  all-text = w .text-is ∙ rw (so .text-is, first-much) (text-more text₀ 0 (so .es) (w .es) (omega (arith, so .ready .used, so .same-text, so .much)))
+  all-text = w .text-is ∙ rw (so .text-is, first-much) (text-more text₀ 0 (so .es) (w .es)
+      (omega (arith, so .ready .used, so .same-text, so .much)))
 
   all-many : t .entities ≡ length es
   all-many = omega (arith, w .many, so .many, length-append (so .es) (w .es))
@@ -222,7 +235,8 @@ module _ (draft list₀ text₀ list text groups : List ℕ) (s : State) (at : �
 -- a round behind which nothing more is read
 pub finished :
     (draft list₀ text₀ list text groups : List ℕ) (s : State) (at : ℕ)
-    → SoFar draft list₀ text₀ list text groups s at (ahead draft list text groups s at) → (t : State) (list′ text′ groups′ : List ℕ) (number place after : ℕ)
+    → SoFar draft list₀ text₀ list text groups s at (ahead draft list text groups s at)
+    → (t : State) (list′ text′ groups′ : List ℕ) (number place after : ℕ)
     → goesRound draft list text groups s at (Over number place t after) list′ text′ groups′
     → (told number place t after ≡ reading limits draft list₀ text₀ .answer)
     × (list′ ≡ reading limits draft list₀ text₀ .list)
@@ -239,7 +253,8 @@ finished draft list₀ text₀ list text groups s at so t list′ text′ groups
 -- nothing is read so far
 pub at-first :
     (draft list text groups : List ℕ) → length draft ≤ 16384 → length groups ≡ 64
-    → SoFar draft list text list text groups (record { metacommand = false; opened = false; depth = 0; entities = 0; text = 0 }) (start draft)
+    → SoFar draft list text list text groups (record { metacommand = false; opened = false; depth = 0; entities = 0; text = 0 })
+    (start draft)
     (ahead draft list text groups (record { metacommand = false; opened = false; depth = 0; entities = 0; text = 0 }) (start draft))
 unfolding ahead readWith roomOf roomLeft readerOf openGroups below before sizes
 at-first draft list text groups h g =
@@ -258,7 +273,8 @@ at-first draft list text groups h g =
     }
 
 -- a later place is as good
-pub later : (s : State) (list text groups : List ℕ) (at place : ℕ) → at ≤ place → Ready s list text groups at → Ready s list text groups place
+pub later : (s : State) (list text groups : List ℕ) (at place : ℕ) → at ≤ place → Ready s list text groups at
+    → Ready s list text groups place
 later s list text groups at place h ready =
     record {
       deep = ready .deep;
@@ -286,17 +302,20 @@ module _ (draft list text groups : List ℕ) (s : State) (at : ℕ) (f : Piece) 
         text-is = sym (text-none text (s .text));
         many = omega arith;
         much = omega arith;
-        comes = rw is (ended draft at _ (one-by-one limits (token-limit draft at) draft at) (rw is at e) (roomLeft s list text) (readerOf s groups));
+        comes = rw is (ended draft at _ (one-by-one limits (token-limit draft at) draft at) (rw is at e) (roomLeft s list text)
+            (readerOf s groups));
       }
 
   module _ (some : f .sort ≡ 4 → ⊥) (list′ text′ groups′ : List ℕ) where
     abbrev comes : Handled
     comes =
-        handled limits (roomLeft s list text) (readerOf s groups) (closingAs (f .sort) (clean (f .prefix) (streamAt draft (f .place)))) (f .place)
+        handled limits (roomLeft s list text) (readerOf s groups) (closingAs (f .sort) (clean (f .prefix) (streamAt draft (f .place))))
+        (f .place)
         (λ q. judgedAs (f .sort) q (f .place) (clean (f .prefix) (streamAt draft (f .place))) (clean (f .bytes) (streamAt draft (f .from))))
 
     abbrev next : Room → Reader → Read
-    next room r = if eqb (f .sort) 3 then success (f .after) else entities limits draft room r (tokens limits between (streamAt draft (f .after)))
+    next room r = if eqb (f .sort) 3 then success (f .after) else entities limits draft room r
+        (tokens limits between (streamAt draft (f .after)))
 
     taken-here : ahead draft list text groups s at ≡ taken (f .place) comes next
     unfolding ahead
@@ -354,7 +373,8 @@ module _ (draft list text groups : List ℕ) (s : State) (at : ℕ) (f : Piece) 
         }
 
     pub behind-here :
-        (step : Step) → agrees comes step s list text list′ text′ groups′ (f .place) → length list′ ≡ length list → length text′ ≡ length text
+        (step : Step) → agrees comes step s list text list′ text′ groups′ (f .place) → length list′ ≡ length list
+        → length text′ ≡ length text
         → (f .sort ≡ 3 → ⊥) → goesRound draft list text groups s at (behindOf step s (f .place) (f .after)) list′ text′ groups′
     unfolding goesRound behindOf refusal ahead
     behind-here (Stops n) a l u e = halted comes n taken-here a
@@ -367,7 +387,8 @@ module _ (draft list text groups : List ℕ) (s : State) (at : ℕ) (f : Piece) 
         )
 
     pub ended-here :
-        (step : Step) → agrees comes step s list text list′ text′ groups′ (f .place) → length list′ ≡ length list → length text′ ≡ length text
+        (step : Step) → agrees comes step s list text list′ text′ groups′ (f .place) → length list′ ≡ length list
+        → length text′ ≡ length text
         → f .sort ≡ 3 → goesRound draft list text groups s at (endedOf step s (f .place) (f .after)) list′ text′ groups′
     unfolding goesRound endedOf refusal success
     ended-here (Stops n) a l u e = halted comes n taken-here a
@@ -376,7 +397,8 @@ module _ (draft list text groups : List ℕ) (s : State) (at : ℕ) (f : Piece) 
 -- a draft over the limit: nothing is read
 pub too-long :
     (draft list text : List ℕ) → 16384 < length draft
-    → (record { number = 1; place = 0; entities = 0; text = 0; consumed = 0; steps = 0; cells = 0 } ≡ reading limits draft list text .answer)
+    → (record { number = 1; place = 0; entities = 0; text = 0; consumed = 0; steps = 0; cells = 0 } ≡ reading limits draft list
+    text .answer)
     × ((list ≡ reading limits draft list text .list) × (text ≡ reading limits draft list text .text))
 unfolding reading answered readWith refusal rows texts sizes
 too-long draft list text h = rw (lt-ltb 16384 (length draft) h) (refl, (refl, refl))

@@ -88,7 +88,8 @@ meaning (Makes m) place text string groups =
     makes (madeEntities m place text string)
     (record { metacommand = m .metacommand; opened = m .opened; groups = groupsAfter (m .groups) groups })
 
--- A verdict about a simple token whose first byte is `c`, with so many groups open and the innermost of them `top`, or 0 where there is none.
+-- A verdict about a simple token whose first byte is `c`, with so many groups open and the innermost of them `top`, or 0 where there is
+-- none.
 unfoldable pub judges : Verdict → (c depth top : ℕ) → (metacommand opened : Bool) → Type 0
 judges v c depth top metacommand opened =
     (place : ℕ) (text groups : List ℕ) → getD text 0 0 ≡ c → length groups ≡ depth → getD groups 0 0 ≡ top

@@ -1,5 +1,5 @@
--- What the code keeps between tokens, and what one token does to it, in the words of Making. Nothing here says more of the format than Making
--- does.
+-- What the code keeps between tokens, and what one token does to it, in the words of Making. Nothing here says more of the format than
+-- Making does.
 use Prim.Native.Nat.{ℕ, zero, suc, _+_, _-_, _*_, _<_, _≤_, _/_}
 use mathlib.Core.Path.{_≡_}
 use mathlib.Core.Bool.{Bool, false}
@@ -57,8 +57,8 @@ roomLeft s list text = record { entities = length list / 6 - s .entities; text =
 abbrev pub unchanged : (draft : List ℕ) → (from n raw : ℕ) → Type 0
 unchanged draft from n raw = raw ≡ n → clean n (streamAt draft from) ≡ take n (drop from draft)
 
--- A token's text and data as reading cuts them: they are as long as it says, its text is the draft's own bytes, and its first byte is a character by
--- itself.
+-- A token's text and data as reading cuts them: they are as long as it says, its text is the draft's own bytes, and its first byte is a
+-- character by itself.
 pub record Contents (draft : List ℕ) (place prefix from n : ℕ) : Type 0 where
   pub here : place < length draft
   pub text-long : length (clean prefix (streamAt draft place)) ≡ prefix
@@ -89,8 +89,8 @@ pub record Spare (s : State) (list text : List ℕ) (at : ℕ) : Type 0 where
   pub used : s .text ≤ length text
   pub small : s .text ≤ 8192 * at
 
--- What one token did, against what Making says of it: the same refusal and nothing written, or the same entities written, the same room left and
--- the same left open.
+-- What one token did, against what Making says of it: the same refusal and nothing written, or the same entities written, the same room
+-- left and the same left open.
 unfoldable pub agrees :
     Handled → Step → (s : State) → (list text list′ text′ groups′ : List ℕ) → (place : ℕ) → Type 0
 agrees (stops n) (Stops m) s list text list′ text′ groups′ place = (m ≡ n) × (list′ ≡ list) × (text′ ≡ text)

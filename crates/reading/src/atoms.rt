@@ -1,5 +1,5 @@
-// `(`, `)`, `,` and `]` where neither a metacommand is open nor an array has just begun. Drafts are full of them; they are tokens of one byte whose
-// entities have no text, so neither the draft nor the text buffer is asked for.
+// `(`, `)`, `,` and `]` where neither a metacommand is open nor an array has just begun. Drafts are full of them; they are tokens of one
+// byte whose entities have no text, so neither the draft nor the text buffer is asked for.
 ghost use mathlib.Core.Path.{_≡_};
 ghost use mathlib.Core.Bool.{true, false};
 ghost use mathlib.Core.List.{List, []};
@@ -41,8 +41,11 @@ pub fn is_atom(b: u8) -> bool
 
 // A token that its rules allow: 18 where its entities do not fit, else they are written and the groups changed.
 fn settle(list: &mut [u32], groups: &mut [u32], s: State, m: Made, place: usize) -> Step
-    requires { ⌜ kinds-fine (Verdict.Makes m) (s .depth) × textless (Verdict.Makes m) × (place < 16384) × Steady s (now list) (now groups) place ⌝ }
-    ensures { λ r. ⌜ ((T text : List ℕ) → Ready s (now (list .entry)) text (now (groups .entry)) place → agrees (fitted (roomLeft s (now (list .entry)) text) (bares 0 place) (meaning (Verdict.Makes m) place T [] (openGroups (now (groups .entry)) (s .depth)))) r s (now (list .entry)) text (now (list .exit)) text (now (groups .exit)) place) ⌝ }
+    requires { ⌜ kinds-fine (Verdict.Makes m) (s .depth) × textless (Verdict.Makes m) × (place < 16384)
+        × Steady s (now list) (now groups) place ⌝ }
+    ensures { λ r. ⌜ ((T text : List ℕ) → Ready s (now (list .entry)) text (now (groups .entry)) place
+        → agrees (fitted (roomLeft s (now (list .entry)) text) (bares 0 place) (meaning (Verdict.Makes m) place T []
+        (openGroups (now (groups .entry)) (s .depth)))) r s (now (list .entry)) text (now (list .exit)) text (now (groups .exit)) place) ⌝ }
 {
     let entities = s.entities;
     let used = s.text;
@@ -73,7 +76,9 @@ fn settle(list: &mut [u32], groups: &mut [u32], s: State, m: Made, place: usize)
 // A token by its verdict.
 fn settled(v: Verdict, list: &mut [u32], groups: &mut [u32], s: State, place: usize) -> Step
     requires { ⌜ kinds-fine v (s .depth) × textless v × (place < 16384) × Steady s (now list) (now groups) place ⌝ }
-    ensures { λ r. ⌜ ((T text : List ℕ) → Ready s (now (list .entry)) text (now (groups .entry)) place → agrees (fitted (roomLeft s (now (list .entry)) text) (bares 0 place) (meaning v place T [] (openGroups (now (groups .entry)) (s .depth)))) r s (now (list .entry)) text (now (list .exit)) text (now (groups .exit)) place) ⌝ }
+    ensures { λ r. ⌜ ((T text : List ℕ) → Ready s (now (list .entry)) text (now (groups .entry)) place
+        → agrees (fitted (roomLeft s (now (list .entry)) text) (bares 0 place) (meaning v place T [] (openGroups (now (groups .entry))
+        (s .depth)))) r s (now (list .entry)) text (now (list .exit)) text (now (groups .exit)) place) ⌝ }
 {
     match v {
         Verdict::Refuses { number } => Step::Stops { number },
@@ -83,8 +88,11 @@ fn settled(v: Verdict, list: &mut [u32], groups: &mut [u32], s: State, place: us
 
 // The token `c`.
 pub fn atom(list: &mut [u32], groups: &mut [u32], s: State, c: u8, place: usize) -> Step
-    requires { ⌜ (isAtom c ≡ true) × (s .metacommand ≡ false) × (s .opened ≡ false) × (place < 16384) × Steady s (now list) (now groups) place ⌝ }
-    ensures { λ r. ⌜ ((T text : List ℕ) → getD T 0 0 ≡ c → Ready s (now (list .entry)) text (now (groups .entry)) place → agrees (fitted (roomLeft s (now (list .entry)) text) (bares 0 place) (judgedAs 0 (readerOf s (now (groups .entry))) place T [])) r s (now (list .entry)) text (now (list .exit)) text (now (groups .exit)) place) ⌝ }
+    requires { ⌜ (isAtom c ≡ true) × (s .metacommand ≡ false) × (s .opened ≡ false) × (place < 16384)
+        × Steady s (now list) (now groups) place ⌝ }
+    ensures { λ r. ⌜ ((T text : List ℕ) → getD T 0 0 ≡ c → Ready s (now (list .entry)) text (now (groups .entry)) place
+        → agrees (fitted (roomLeft s (now (list .entry)) text) (bares 0 place) (judgedAs 0 (readerOf s (now (groups .entry))) place T [])) r
+        s (now (list .entry)) text (now (list .exit)) text (now (groups .exit)) place) ⌝ }
 {
     let depth = s.depth;
     if c == b'(' {

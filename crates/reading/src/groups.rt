@@ -1,5 +1,5 @@
-// The open groups: one array of numbers, of which the first `depth` are open, the innermost last. 0 is a group of its own, n the nth element
-// of an array.
+// The open groups: one array of numbers, of which the first `depth` are open, the innermost last. 0 is a group of its own, n the nth
+// element of an array.
 ghost use mathlib.Core.Path.{_≡_};
 ghost use mathlib.Core.List.{_∷_};
 ghost use Prim.Native.Nat.{ℕ, _+_, _<_, _≤_, _^_};
@@ -28,7 +28,8 @@ pub fn push(groups: &mut [u32], depth: usize, number: u32)
 
 // What a token does to them; answers how many are open then.
 pub fn change(groups: &mut [u32], depth: usize, change: u32) -> usize
-    requires { ⌜ (depth ≤ 64) × (length (now groups) ≡ 64) × (change ≡ 1 → depth < 64) × (getD (openGroups (now groups) depth) 0 0 + 1 < 2 ^ 32) ⌝ }
+    requires { ⌜ (depth ≤ 64) × (length (now groups) ≡ 64) × (change ≡ 1 → depth < 64)
+        × (getD (openGroups (now groups) depth) 0 0 + 1 < 2 ^ 32) ⌝ }
     ensures { λ r. ⌜ (openGroups (now (groups .exit)) r ≡ groupsAfter change (openGroups (now (groups .entry)) depth)) × (r ≤ 64) ⌝ }
 {
     if change == 0 {

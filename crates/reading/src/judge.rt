@@ -8,7 +8,8 @@ ghost use Rattle.chars.specs.Choice.{among, ascii, within};
 ghost use Rattle.chars.specs.Limits.{limits as base};
 ghost use Rattle.tokens.specs.Tokens.{simple as simpleSort};
 ghost use Rattle.tokens.specs.Runs.{sortOf};
-ghost use Rattle.reading.specs.Making.{judged, judged-last, within-groups, group-begins, group-ends, element-ends, array-ends, adds, word as wordOf};
+ghost use Rattle.reading.specs.Making.{judged, judged-last, within-groups, group-begins, group-ends, element-ends, array-ends, adds};
+ghost use Rattle.reading.specs.Making.{word as wordOf};
 ghost use Rattle.reading.specs.Judging.{meaning, judges, kinds-fine, textless, single};
 use chars::limits;
 
@@ -42,7 +43,16 @@ fn makes(
     metacommand: bool,
     opened: bool,
 ) -> Verdict
-    ensures { λ r. ⌜ r ≡ Verdict.Makes (record { first = first; last = last; count = count; text = text; groups = groups; metacommand = metacommand; opened = opened }) ⌝ }
+    ensures { λ r. ⌜ r ≡ Verdict.Makes (record {
+      first = first;
+      last = last;
+      count = count;
+      text = text;
+      groups = groups;
+      metacommand =
+          metacommand;
+      opened = opened;
+    }) ⌝ }
 {
     let made = Made {
         first,
@@ -58,7 +68,8 @@ fn makes(
 
 // `(`: 17 over the limit.
 pub fn group_begins(depth: usize) -> Verdict
-    ensures { λ r. ⌜ ((place : ℕ) (text groups : List ℕ) → length groups ≡ depth → meaning r place text [] groups ≡ group-begins base (within-groups groups) place) × kinds-fine r depth × textless r ⌝ }
+    ensures { λ r. ⌜ ((place : ℕ) (text groups : List ℕ) → length groups ≡ depth
+        → meaning r place text [] groups ≡ group-begins base (within-groups groups) place) × kinds-fine r depth × textless r ⌝ }
 {
     if depth < limits::GROUPS {
         return makes(0, 6, 0, 0, 1, false, false);
@@ -68,7 +79,8 @@ pub fn group_begins(depth: usize) -> Verdict
 
 // `)`: 14 where the innermost open group is none of its own.
 pub fn group_ends(depth: usize, top: u32) -> Verdict
-    ensures { λ r. ⌜ ((place : ℕ) (text groups : List ℕ) → length groups ≡ depth → getD groups 0 0 ≡ top → meaning r place text [] groups ≡ group-ends groups place) × kinds-fine r depth × textless r ⌝ }
+    ensures { λ r. ⌜ ((place : ℕ) (text groups : List ℕ) → length groups ≡ depth → getD groups 0 0 ≡ top
+        → meaning r place text [] groups ≡ group-ends groups place) × kinds-fine r depth × textless r ⌝ }
 {
     if depth == 0 {
         return Verdict::Refuses { number: 14 };
@@ -81,7 +93,8 @@ pub fn group_ends(depth: usize, top: u32) -> Verdict
 
 // `,`: 15 where the innermost open group is no element.
 pub fn element_ends(top: u32) -> Verdict
-    ensures { λ r. ⌜ ((place : ℕ) (text groups : List ℕ) → getD groups 0 0 ≡ top → meaning r place text [] groups ≡ element-ends groups place) × ((depth : ℕ) → kinds-fine r depth) × textless r ⌝ }
+    ensures { λ r. ⌜ ((place : ℕ) (text groups : List ℕ) → getD groups 0 0 ≡ top
+        → meaning r place text [] groups ≡ element-ends groups place) × ((depth : ℕ) → kinds-fine r depth) × textless r ⌝ }
 {
     if top == 0 {
         return Verdict::Refuses { number: 15 };
@@ -91,7 +104,8 @@ pub fn element_ends(top: u32) -> Verdict
 
 // `]`: 16 where the innermost open group is no element, unless the array has just begun.
 pub fn array_ends(opened: bool, top: u32) -> Verdict
-    ensures { λ r. ⌜ ((place : ℕ) (text groups : List ℕ) → getD groups 0 0 ≡ top → meaning r place text [] groups ≡ array-ends opened groups place) × ((depth : ℕ) → kinds-fine r depth) × textless r ⌝ }
+    ensures { λ r. ⌜ ((place : ℕ) (text groups : List ℕ) → getD groups 0 0 ≡ top
+        → meaning r place text [] groups ≡ array-ends opened groups place) × ((depth : ℕ) → kinds-fine r depth) × textless r ⌝ }
 {
     if opened {
         return makes(0, 8, 0, 0, 0, false, false);
@@ -120,7 +134,9 @@ fn is_number(c: u8) -> bool
 
 // Any other simple token in regular mode, by its first byte. Above `@` it is an operation, as most are.
 pub fn word(c: u8, opened: bool) -> Verdict
-    ensures { λ r. ⌜ ((place : ℕ) (text groups : List ℕ) → getD text 0 0 ≡ c → meaning r place text [] groups ≡ adds (record { metacommand = false; opened = opened; groups = groups }) (wordOf place text)) × ((depth : ℕ) → kinds-fine r depth) × single r ⌝ }
+    ensures { λ r. ⌜ ((place : ℕ) (text groups : List ℕ) → getD text 0 0 ≡ c
+        → meaning r place text [] groups ≡ adds (record { metacommand = false; opened = opened; groups = groups }) (wordOf place text))
+        × ((depth : ℕ) → kinds-fine r depth) × single r ⌝ }
 {
     if b'@' < c {
         return makes(0, 16, 0, 1, 0, false, opened);
@@ -173,7 +189,9 @@ fn regular(c: u8, opened: bool, depth: usize, top: u32) -> Verdict
 
 // A simple token in metacommand mode: `%` is 10, `;` ends the mode, and every other token is a metacommand token.
 fn command(c: u8, opened: bool) -> Verdict
-    ensures { λ r. ⌜ ((place : ℕ) (text groups : List ℕ) → getD text 0 0 ≡ c → meaning r place text [] groups ≡ judged base simpleSort (record { metacommand = true; opened = opened; groups = groups }) place text []) × ((depth : ℕ) → kinds-fine r depth) ⌝ }
+    ensures { λ r. ⌜ ((place : ℕ) (text groups : List ℕ) → getD text 0 0 ≡ c
+        → meaning r place text [] groups ≡ judged base simpleSort (record { metacommand = true; opened = opened; groups = groups }) place
+        text []) × ((depth : ℕ) → kinds-fine r depth) ⌝ }
 {
     if c == b'%' {
         return Verdict::Refuses { number: 10 };
@@ -196,7 +214,13 @@ pub fn simple(c: u8, metacommand: bool, opened: bool, depth: usize, top: u32) ->
 
 // A string token.
 pub fn string(curly: bool, metacommand: bool, opened: bool) -> Verdict
-    ensures { λ r. ⌜ ((place : ℕ) (text string groups : List ℕ) → meaning r place text string groups ≡ judged base (sortOf curly) (record { metacommand = metacommand; opened = opened; groups = groups }) place text string) × ((depth : ℕ) → kinds-fine r depth) ⌝ }
+    ensures { λ r. ⌜ ((place : ℕ) (text string groups : List ℕ)
+        → meaning r place text string groups ≡ judged base (sortOf curly) (record {
+          metacommand = metacommand;
+          opened = opened;
+          groups =
+              groups;
+        }) place text string) × ((depth : ℕ) → kinds-fine r depth) ⌝ }
 {
     if metacommand {
         if curly {
@@ -212,7 +236,9 @@ pub fn string(curly: bool, metacommand: bool, opened: bool) -> Verdict
 
 // `|;`: 12 in a metacommand, 13 with a group or an array open.
 pub fn last(metacommand: bool, opened: bool, depth: usize) -> Verdict
-    ensures { λ r. ⌜ ((place : ℕ) (text groups : List ℕ) → length groups ≡ depth → meaning r place text [] groups ≡ judged-last (record { metacommand = metacommand; opened = opened; groups = groups }) place) × kinds-fine r depth ⌝ }
+    ensures { λ r. ⌜ ((place : ℕ) (text groups : List ℕ) → length groups ≡ depth
+        → meaning r place text [] groups ≡ judged-last (record { metacommand = metacommand; opened = opened; groups = groups }) place)
+        × kinds-fine r depth ⌝ }
 {
     if metacommand {
         return Verdict::Refuses { number: 12 };

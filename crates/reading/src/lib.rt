@@ -107,7 +107,15 @@ fn apart(token: Token) -> Piece
 
 // An answer of read.
 fn told(number: u32, place: usize, s: State, consumed: usize) -> Answer
-    ensures { λ r. ⌜ r ≡ record { number = number; place = place; entities = s .entities; text = s .text; consumed = consumed; steps = 0; cells = 0 } ⌝ }
+    ensures { λ r. ⌜ r ≡ record {
+      number = number;
+      place = place;
+      entities = s .entities;
+      text = s .text;
+      consumed = consumed;
+      steps = 0;
+      cells = 0;
+    } ⌝ }
 {
     Answer {
         number: number as u64,
@@ -154,8 +162,8 @@ fn walk(draft: &[u8], list: &mut [u32], text: &mut [u8], groups: &mut [u32]) -> 
     }
 }
 
-// Reads a draft into two lent buffers: the entities' numbers into the list, their text and data into the text buffer. Past what is held every
-// number and byte is as before.
+// Reads a draft into two lent buffers: the entities' numbers into the list, their text and data into the text buffer. Past what is held
+// every number and byte is as before.
 pub fn read(draft: &[u8], list: &mut [u32], text: &mut [u8]) -> Answer
     ensures { λ r. ⌜ r ≡ readingOf base (now (draft .entry)) (now (list .entry)) (now (text .entry)) .answer ⌝ }
     ensures { λ _. ⌜ now (list .exit) ≡ readingOf base (now (draft .entry)) (now (list .entry)) (now (text .entry)) .list ⌝ }

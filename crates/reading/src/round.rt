@@ -90,7 +90,8 @@ fn is_blank(b: u8) -> bool
 
 // The state behind `[`.
 fn array_begins(s: State) -> State
-    ensures { λ r. ⌜ r ≡ record { metacommand = s .metacommand; opened = true; depth = s .depth; entities = s .entities; text = s .text } ⌝ }
+    ensures { λ r. ⌜ r
+        ≡ record { metacommand = s .metacommand; opened = true; depth = s .depth; entities = s .entities; text = s .text } ⌝ }
 {
     let metacommand = s.metacommand;
     let depth = s.depth;
@@ -115,7 +116,8 @@ fn any(
     at: usize,
 ) -> Round
     requires { ⌜ (length (now draft) ≤ 16384) × Ready s (now list) (now text) (now groups) at ⌝ }
-    ensures { λ r. ⌜ goesRound (now (draft .entry)) (now (list .entry)) (now (text .entry)) (now (groups .entry)) s at r (now (list .exit)) (now (text .exit)) (now (groups .exit)) ⌝ }
+    ensures { λ r. ⌜ goesRound (now (draft .entry)) (now (list .entry)) (now (text .entry)) (now (groups .entry)) s at r (now (list .exit))
+        (now (text .exit)) (now (groups .exit)) ⌝ }
 {
     let p = apart(tokens::token_at(draft, at));
     let sort = p.sort;
@@ -158,7 +160,8 @@ pub fn go_round(
     at: usize,
 ) -> Round
     requires { ⌜ (length (now draft) ≤ 16384) × Ready s (now list) (now text) (now groups) at ⌝ }
-    ensures { λ r. ⌜ goesRound (now (draft .entry)) (now (list .entry)) (now (text .entry)) (now (groups .entry)) s at r (now (list .exit)) (now (text .exit)) (now (groups .exit)) ⌝ }
+    ensures { λ r. ⌜ goesRound (now (draft .entry)) (now (list .entry)) (now (text .entry)) (now (groups .entry)) s at r (now (list .exit))
+        (now (text .exit)) (now (groups .exit)) ⌝ }
 {
     if at < draft.len() {
         let b = draft[at];

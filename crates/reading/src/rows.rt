@@ -20,7 +20,8 @@ pub fn row(
     count: u32,
 )
     requires { ⌜ at + 6 ≤ length (now list) ⌝ }
-    ensures { λ r. ⌜ now (list .exit) ≡ take at (now (list .entry)) ++ ((kind ∷ place ∷ «text_at» ∷ «text_len» ∷ «data_len» ∷ count ∷ []) ++ drop (at + 6) (now (list .entry))) ⌝ }
+    ensures { λ r. ⌜ now (list .exit) ≡ take at (now (list .entry)) ++ ((kind ∷ place ∷ «text_at» ∷ «text_len» ∷ «data_len» ∷ count ∷ []) ++
+        drop (at + 6) (now (list .entry))) ⌝ }
 {
     list[at] = kind;
     list[at + 1] = place;
@@ -33,7 +34,8 @@ pub fn row(
 // An entity with nothing in it behind the first `held`, or none for kind 0; answers how many the list holds then.
 pub fn bare(list: &mut [u32], held: usize, used: usize, kind: u32, place: usize) -> usize
     requires { ⌜ (kind ≤ 17) × ((held + length (bares kind place)) * 6 ≤ length (now list)) × (place < 2 ^ 32) × (used < 2 ^ 32) ⌝ }
-    ensures { λ r. ⌜ (r ≡ held + length (bares kind place)) × (now (list .exit) ≡ written (now (list .entry)) held used (bares kind place)) ⌝ }
+    ensures { λ r. ⌜ (r ≡ held + length (bares kind place)) × (now (list .exit) ≡ written (now (list .entry)) held used (bares kind place))
+        ⌝ }
 {
     if kind == 0 {
         return held;
@@ -57,16 +59,18 @@ fn plain(draft: &[u8], from: usize, n: usize, out: &mut [u8])
 // The same behind the first `used` bytes of the text buffer, whose unused rest is lent on.
 pub fn as_it_stands(draft: &[u8], from: usize, n: usize, text: &mut [u8], used: usize)
     requires { ⌜ (used + n ≤ length (now text)) × (n ≤ length (drop from (now draft))) ⌝ }
-    ensures { λ r. ⌜ now (text .exit) ≡ take used (now (text .entry)) ++ (take n (drop from (now (draft .entry))) ++ drop (used + n) (now (text .entry))) ⌝ }
+    ensures { λ r. ⌜ now (text .exit) ≡ take used (now (text .entry)) ++ (take n (drop from (now (draft .entry))) ++ drop (used + n)
+        (now (text .entry))) ⌝ }
 {
     plain(draft, from, n, &mut text[used..]);
 }
 
-// Clean bytes behind the first `used` of the text buffer, whose unused rest is lent to the copier. They take `raw` bytes of the draft: where these
-// are as many, they are the draft's own, and need no cleaning.
+// Clean bytes behind the first `used` of the text buffer, whose unused rest is lent to the copier. They take `raw` bytes of the draft:
+// where these are as many, they are the draft's own, and need no cleaning.
 pub fn fill(draft: &[u8], from: usize, n: usize, raw: usize, text: &mut [u8], used: usize)
     requires { ⌜ (used + n ≤ length (now text)) × (length (clean n (streamAt (now draft) from)) ≡ n) × unchanged (now draft) from n raw ⌝ }
-    ensures { λ r. ⌜ now (text .exit) ≡ take used (now (text .entry)) ++ (clean n (streamAt (now (draft .entry)) from) ++ drop (used + n) (now (text .entry))) ⌝ }
+    ensures { λ r. ⌜ now (text .exit) ≡ take used (now (text .entry)) ++ (clean n (streamAt (now (draft .entry)) from) ++ drop (used + n)
+        (now (text .entry))) ⌝ }
 {
     if raw == n {
         as_it_stands(draft, from, n, text, used);
@@ -91,8 +95,15 @@ pub fn full(
     raw: usize,
     count: u32,
 )
-    requires { ⌜ (1 ≤ kind) × (kind ≤ 17) × (held * 6 + 6 ≤ length (now list)) × (used + «text_len» + «data_len» ≤ length (now text)) × (place < 2 ^ 32) × (used < 2 ^ 32) × («text_len» < 2 ^ 32) × («data_len» < 2 ^ 32) × (length (clean «text_len» (streamAt (now draft) «text_from»)) ≡ «text_len») × (length (clean «data_len» (streamAt (now draft) «data_from»)) ≡ «data_len») × unchanged (now draft) «text_from» «text_len» «text_len» × unchanged (now draft) «data_from» «data_len» raw ⌝ }
-    ensures { λ r. ⌜ (now (list .exit) ≡ written (now (list .entry)) held used (filled (now (draft .entry)) kind place «text_from» «text_len» «data_from» «data_len» count ∷ [])) × (now (text .exit) ≡ textWritten (now (text .entry)) used (filled (now (draft .entry)) kind place «text_from» «text_len» «data_from» «data_len» count ∷ [])) ⌝ }
+    requires { ⌜ (1 ≤ kind) × (kind ≤ 17) × (held * 6 + 6 ≤ length (now list)) × (used + «text_len» + «data_len» ≤ length (now text))
+        × (place < 2 ^ 32) × (used < 2 ^ 32) × («text_len» < 2 ^ 32) × («data_len» < 2 ^ 32)
+        × (length (clean «text_len» (streamAt (now draft) «text_from»)) ≡ «text_len»)
+        × (length (clean «data_len» (streamAt (now draft) «data_from»)) ≡ «data_len»)
+        × unchanged (now draft) «text_from» «text_len» «text_len» × unchanged (now draft) «data_from» «data_len» raw ⌝ }
+    ensures { λ r. ⌜ (now (list .exit) ≡ written (now (list .entry)) held used (filled (now (draft .entry)) kind place «text_from»
+        «text_len» «data_from» «data_len» count ∷ []))
+        × (now (text .exit) ≡ textWritten (now (text .entry)) used (filled (now (draft .entry)) kind place «text_from» «text_len»
+        «data_from» «data_len» count ∷ [])) ⌝ }
 {
     row(
         list,

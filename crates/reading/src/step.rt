@@ -1,10 +1,13 @@
-// One token: an inserted begin group, the token's own rules, room, and then its entities. A token is written only when it is allowed and fits.
+// One token: an inserted begin group, the token's own rules, room, and then its entities. A token is written only when it is allowed and
+// fits.
 ghost use mathlib.Core.Path.{_≡_};
 ghost use Prim.Native.Nat.{ℕ, _+_, _-_, _*_, _<_, _≤_, _/_, _^_};
 ghost use lib.ListN.{length, getD};
 ghost use Rattle.reading.specs.Entity.{sizes};
-ghost use Rattle.reading.specs.Judging.{meaning, kinds-fine, bares, tokenEntities, written, textWritten, cutFrom, cutLength, one as oneOf, madeCount, madeSize, shortOf};
-ghost use Rattle.reading.specs.Stepping.{Contents, Ready, unchanged, openGroups, readerOf, roomLeft, agrees, shows, sorted, judgesAs, judgedAs, closingAs, inserted};
+ghost use Rattle.reading.specs.Judging.{meaning, kinds-fine, bares, tokenEntities, written, textWritten, cutFrom, cutLength};
+ghost use Rattle.reading.specs.Judging.{one as oneOf, madeCount, madeSize, shortOf};
+ghost use Rattle.reading.specs.Stepping.{Contents, Ready, unchanged, openGroups, readerOf, roomLeft, agrees, shows, sorted, judgesAs};
+ghost use Rattle.reading.specs.Stepping.{judgedAs, closingAs, inserted};
 ghost use Rattle.reading.specs.Making.{fitted, handled};
 ghost use Rattle.chars.specs.Limits.{limits as base};
 ghost use mathlib.Core.List.{List};
@@ -126,8 +129,14 @@ fn write(
     data: usize,
     raw: usize,
 ) -> usize
-    requires { ⌜ (lead ≤ 17) × (m .first ≤ 17) × (m .last ≤ 17) × (6 * (held + length (tokenEntities (now draft) lead m place prefix from «data»)) ≤ length (now list)) × (used + sizes (tokenEntities (now draft) lead m place prefix from «data») ≤ length (now text)) × (place < 2 ^ 32) × (used < 2 ^ 32) × (prefix < 2 ^ 32) × («data» < 2 ^ 32) × Contents (now draft) place prefix from «data» × unchanged (now draft) from «data» raw ⌝ }
-    ensures { λ r. ⌜ (r ≡ held + length (tokenEntities (now (draft .entry)) lead m place prefix from «data»)) × (now (list .exit) ≡ written (now (list .entry)) held used (tokenEntities (now (draft .entry)) lead m place prefix from «data»)) × (now (text .exit) ≡ textWritten (now (text .entry)) used (tokenEntities (now (draft .entry)) lead m place prefix from «data»)) ⌝ }
+    requires { ⌜ (lead ≤ 17) × (m .first ≤ 17) × (m .last ≤ 17)
+        × (6 * (held + length (tokenEntities (now draft) lead m place prefix from «data»)) ≤ length (now list))
+        × (used + sizes (tokenEntities (now draft) lead m place prefix from «data») ≤ length (now text)) × (place < 2 ^ 32)
+        × (used < 2 ^ 32) × (prefix < 2 ^ 32) × («data» < 2 ^ 32) × Contents (now draft) place prefix from «data»
+        × unchanged (now draft) from «data» raw ⌝ }
+    ensures { λ r. ⌜ (r ≡ held + length (tokenEntities (now (draft .entry)) lead m place prefix from «data»))
+        × (now (list .exit) ≡ written (now (list .entry)) held used (tokenEntities (now (draft .entry)) lead m place prefix from «data»))
+        × (now (text .exit) ≡ textWritten (now (text .entry)) used (tokenEntities (now (draft .entry)) lead m place prefix from «data»)) ⌝ }
 {
     let one = bare(list, held, used, lead, place);
     let first = m.first;
@@ -189,8 +198,13 @@ fn settle(
     data: usize,
     raw: usize,
 ) -> Step
-    requires { ⌜ (lead ≤ 17) × kinds-fine (Verdict.Makes m) (s .depth) × (place < 16384) × (prefix ≤ 4096) × («data» ≤ 4096) × Contents (now draft) place prefix from «data» × Ready s (now list) (now text) (now groups) place × unchanged (now draft) from «data» raw ⌝ }
-    ensures { λ r. ⌜ agrees (fitted (roomLeft s (now (list .entry)) (now (text .entry))) (bares lead place) (meaning (Verdict.Makes m) place (clean prefix (streamAt (now (draft .entry)) place)) (clean «data» (streamAt (now (draft .entry)) from)) (openGroups (now (groups .entry)) (s .depth)))) r s (now (list .entry)) (now (text .entry)) (now (list .exit)) (now (text .exit)) (now (groups .exit)) place ⌝ }
+    requires { ⌜ (lead ≤ 17) × kinds-fine (Verdict.Makes m) (s .depth) × (place < 16384) × (prefix ≤ 4096) × («data» ≤ 4096)
+        × Contents (now draft) place prefix from «data» × Ready s (now list) (now text) (now groups) place
+        × unchanged (now draft) from «data» raw ⌝ }
+    ensures { λ r. ⌜ agrees (fitted (roomLeft s (now (list .entry)) (now (text .entry))) (bares lead place) (meaning (Verdict.Makes m) place
+        (clean prefix (streamAt (now (draft .entry)) place)) (clean «data» (streamAt (now (draft .entry)) from))
+        (openGroups (now (groups .entry)) (s .depth)))) r s (now (list .entry)) (now (text .entry)) (now (list .exit)) (now (text .exit))
+        (now (groups .exit)) place ⌝ }
 {
     let entities = s.entities;
     let used = s.text;
@@ -246,8 +260,13 @@ fn decide(
     data: usize,
     raw: usize,
 ) -> Step
-    requires { ⌜ (lead ≤ 17) × shows sort c (clean prefix (streamAt (now draft) place)) (clean «data» (streamAt (now draft) from)) × (place < 16384) × (prefix ≤ 4096) × («data» ≤ 4096) × Contents (now draft) place prefix from «data» × Ready s (now list) (now text) (now groups) place × unchanged (now draft) from «data» raw ⌝ }
-    ensures { λ r. ⌜ agrees (fitted (roomLeft s (now (list .entry)) (now (text .entry))) (bares lead place) (judgedAs sort (readerOf s (now (groups .entry))) place (clean prefix (streamAt (now (draft .entry)) place)) (clean «data» (streamAt (now (draft .entry)) from)))) r s (now (list .entry)) (now (text .entry)) (now (list .exit)) (now (text .exit)) (now (groups .exit)) place ⌝ }
+    requires { ⌜ (lead ≤ 17) × shows sort c (clean prefix (streamAt (now draft) place)) (clean «data» (streamAt (now draft) from))
+        × (place < 16384) × (prefix ≤ 4096) × («data» ≤ 4096) × Contents (now draft) place prefix from «data»
+        × Ready s (now list) (now text) (now groups) place × unchanged (now draft) from «data» raw ⌝ }
+    ensures { λ r. ⌜ agrees (fitted (roomLeft s (now (list .entry)) (now (text .entry))) (bares lead place)
+        (judgedAs sort (readerOf s (now (groups .entry))) place (clean prefix (streamAt (now (draft .entry)) place))
+        (clean «data» (streamAt (now (draft .entry)) from)))) r s (now (list .entry)) (now (text .entry)) (now (list .exit))
+        (now (text .exit)) (now (groups .exit)) place ⌝ }
 {
     let depth = s.depth;
     let metacommand = s.metacommand;
@@ -301,8 +320,13 @@ fn insert(
     data: usize,
     raw: usize,
 ) -> Step
-    requires { ⌜ shows sort c (clean prefix (streamAt (now draft) place)) (clean «data» (streamAt (now draft) from)) × (place < 16384) × (prefix ≤ 4096) × («data» ≤ 4096) × Contents (now draft) place prefix from «data» × Ready s (now list) (now text) (now groups) place × unchanged (now draft) from «data» raw ⌝ }
-    ensures { λ r. ⌜ agrees (inserted (roomLeft s (now (list .entry)) (now (text .entry))) (openGroups (now (groups .entry)) (s .depth)) place (λ q. judgedAs sort q place (clean prefix (streamAt (now (draft .entry)) place)) (clean «data» (streamAt (now (draft .entry)) from)))) r s (now (list .entry)) (now (text .entry)) (now (list .exit)) (now (text .exit)) (now (groups .exit)) place ⌝ }
+    requires { ⌜ shows sort c (clean prefix (streamAt (now draft) place)) (clean «data» (streamAt (now draft) from)) × (place < 16384)
+        × (prefix ≤ 4096) × («data» ≤ 4096) × Contents (now draft) place prefix from «data»
+        × Ready s (now list) (now text) (now groups) place × unchanged (now draft) from «data» raw ⌝ }
+    ensures { λ r. ⌜ agrees (inserted (roomLeft s (now (list .entry)) (now (text .entry))) (openGroups (now (groups .entry)) (s .depth))
+        place (λ q. judgedAs sort q place (clean prefix (streamAt (now (draft .entry)) place))
+        (clean «data» (streamAt (now (draft .entry)) from)))) r s (now (list .entry)) (now (text .entry)) (now (list .exit))
+        (now (text .exit)) (now (groups .exit)) place ⌝ }
 {
     let depth = s.depth;
     let entities = s.entities;
@@ -353,8 +377,13 @@ pub fn take(
     data: usize,
     after: usize,
 ) -> Step
-    requires { ⌜ sorted sort prefix «data» × (place < 16384) × (prefix ≤ 4096) × («data» ≤ 4096) × Contents (now draft) place prefix from «data» × Ready s (now list) (now text) (now groups) place × (from < after) × unchanged (now draft) from «data» (after - from - 1) ⌝ }
-    ensures { λ r. ⌜ agrees (handled base (roomLeft s (now (list .entry)) (now (text .entry))) (readerOf s (now (groups .entry))) (closingAs sort (clean prefix (streamAt (now (draft .entry)) place))) place (λ q. judgedAs sort q place (clean prefix (streamAt (now (draft .entry)) place)) (clean «data» (streamAt (now (draft .entry)) from)))) r s (now (list .entry)) (now (text .entry)) (now (list .exit)) (now (text .exit)) (now (groups .exit)) place ⌝ }
+    requires { ⌜ sorted sort prefix «data» × (place < 16384) × (prefix ≤ 4096) × («data» ≤ 4096)
+        × Contents (now draft) place prefix from «data» × Ready s (now list) (now text) (now groups) place × (from < after)
+        × unchanged (now draft) from «data» (after - from - 1) ⌝ }
+    ensures { λ r. ⌜ agrees (handled base (roomLeft s (now (list .entry)) (now (text .entry))) (readerOf s (now (groups .entry)))
+        (closingAs sort (clean prefix (streamAt (now (draft .entry)) place))) place (λ q. judgedAs sort q place
+        (clean prefix (streamAt (now (draft .entry)) place)) (clean «data» (streamAt (now (draft .entry)) from)))) r s (now (list .entry))
+        (now (text .entry)) (now (list .exit)) (now (text .exit)) (now (groups .exit)) place ⌝ }
 {
     let c = draft[place];
     let opened = s.opened;

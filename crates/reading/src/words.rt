@@ -1,5 +1,5 @@
-// A word, a simple token of class 4 at its start, where no metacommand is open. Most of a draft is words; each is one entity, whose text stands in the
-// draft as it is, and right behind `[` a begin group comes before it.
+// A word, a simple token of class 4 at its start, where no metacommand is open. Most of a draft is words; each is one entity, whose text
+// stands in the draft as it is, and right behind `[` a begin group comes before it.
 ghost use mathlib.Core.Path.{_≡_};
 ghost use mathlib.Core.Bool.{true, false, _&&_};
 ghost use mathlib.Core.List.{List, [], _∷_};
@@ -26,8 +26,8 @@ use crate::step::cut_length;
 use crate::step::one;
 use chars::limits;
 
-// A token that its rules allow: 18 or 19 where its entity does not fit behind an inserted begin group (`lead` is 6, or 0 for none), else both are
-// written.
+// A token that its rules allow: 18 or 19 where its entity does not fit behind an inserted begin group (`lead` is 6, or 0 for none), else
+// both are written.
 fn hold(
     draft: &[u8],
     list: &mut [u32],
@@ -38,8 +38,12 @@ fn hold(
     place: usize,
     length: usize,
 ) -> Step
-    requires { ⌜ (lead ≤ 17) × kinds-fine (Verdict.Makes m) (s .depth) × single (Verdict.Makes m) × (place < 16384) × («length» ≤ 4096) × Contents (now draft) place «length» 0 0 × Spare s (now list) (now text) place ⌝ }
-    ensures { λ r. ⌜ ((groups : List ℕ) → Ready s (now (list .entry)) (now (text .entry)) groups place → agrees (fitted (roomLeft s (now (list .entry)) (now (text .entry))) (bares lead place) (meaning (Verdict.Makes m) place (clean «length» (streamAt (now (draft .entry)) place)) [] (openGroups groups (s .depth)))) r s (now (list .entry)) (now (text .entry)) (now (list .exit)) (now (text .exit)) groups place) ⌝ }
+    requires { ⌜ (lead ≤ 17) × kinds-fine (Verdict.Makes m) (s .depth) × single (Verdict.Makes m) × (place < 16384) × («length» ≤ 4096)
+        × Contents (now draft) place «length» 0 0 × Spare s (now list) (now text) place ⌝ }
+    ensures { λ r. ⌜ ((groups : List ℕ) → Ready s (now (list .entry)) (now (text .entry)) groups place
+        → agrees (fitted (roomLeft s (now (list .entry)) (now (text .entry))) (bares lead place) (meaning (Verdict.Makes m) place
+        (clean «length» (streamAt (now (draft .entry)) place)) [] (openGroups groups (s .depth)))) r s (now (list .entry))
+        (now (text .entry)) (now (list .exit)) (now (text .exit)) groups place) ⌝ }
 {
     let entities = s.entities;
     let used = s.text;
@@ -90,8 +94,14 @@ fn hold_word(
     place: usize,
     length: usize,
 ) -> Step
-    requires { ⌜ (lead ≤ 17) × (place < 16384) × («length» ≤ 4096) × Contents (now draft) place «length» 0 0 × Spare s (now list) (now text) place ⌝ }
-    ensures { λ r. ⌜ (getD (clean «length» (streamAt (now (draft .entry)) place)) 0 0 ≡ c → (groups : List ℕ) → Ready s (now (list .entry)) (now (text .entry)) groups place → agrees (fitted (roomLeft s (now (list .entry)) (now (text .entry))) (bares lead place) (adds (record { metacommand = false; opened = false; groups = openGroups groups (s .depth) }) (wordOf place (clean «length» (streamAt (now (draft .entry)) place))))) r s (now (list .entry)) (now (text .entry)) (now (list .exit)) (now (text .exit)) groups place) ⌝ }
+    requires { ⌜ (lead ≤ 17) × (place < 16384) × («length» ≤ 4096) × Contents (now draft) place «length» 0 0
+        × Spare s (now list) (now text) place ⌝ }
+    ensures { λ r. ⌜ (getD (clean «length» (streamAt (now (draft .entry)) place)) 0 0 ≡ c → (groups : List ℕ)
+        → Ready s (now (list .entry)) (now (text .entry)) groups place
+        → agrees (fitted (roomLeft s (now (list .entry)) (now (text .entry))) (bares lead place)
+        (adds (record { metacommand = false; opened = false; groups = openGroups groups (s .depth) })
+        (wordOf place (clean «length» (streamAt (now (draft .entry)) place))))) r s (now (list .entry)) (now (text .entry))
+        (now (list .exit)) (now (text .exit)) groups place) ⌝ }
 {
     let v = word(c, false);
     match v {
@@ -123,7 +133,9 @@ fn brings(opened: bool) -> u32
 // The state in which a word is judged: the begin group that it brings is open.
 fn enter(groups: &mut [u32], s: State) -> State
     requires { ⌜ (s .opened ≡ true → s .depth < 64) × (length (now groups) ≡ 64) ⌝ }
-    ensures { λ r. ⌜ (r ≡ enteredBy s) × (openGroups (now (groups .exit)) (r .depth) ≡ (if s .opened then 1 ∷ openGroups (now (groups .entry)) (s .depth) else openGroups (now (groups .entry)) (s .depth))) ⌝ }
+    ensures { λ r. ⌜ (r ≡ enteredBy s)
+        × (openGroups (now (groups .exit)) (r .depth) ≡ (if s .opened then 1 ∷ openGroups (now (groups .entry)) (s .depth) else openGroups
+        (now (groups .entry)) (s .depth))) ⌝ }
 {
     let opened = s.opened;
     let depth = s.depth;
@@ -159,8 +171,12 @@ pub fn take_word(
     place: usize,
     length: usize,
 ) -> Step
-    requires { ⌜ (place < 16384) × («length» ≤ 4096) × Contents (now draft) place «length» 0 0 × Ready s (now list) (now text) (now groups) place ⌝ }
-    ensures { λ r. ⌜ (getD (clean «length» (streamAt (now (draft .entry)) place)) 0 0 ≡ c → s .metacommand ≡ false → agrees (handled base (roomLeft s (now (list .entry)) (now (text .entry))) (readerOf s (now (groups .entry))) false place (λ q. adds q (wordOf place (clean «length» (streamAt (now (draft .entry)) place))))) r s (now (list .entry)) (now (text .entry)) (now (list .exit)) (now (text .exit)) (now (groups .exit)) place) ⌝ }
+    requires { ⌜ (place < 16384) × («length» ≤ 4096) × Contents (now draft) place «length» 0 0
+        × Ready s (now list) (now text) (now groups) place ⌝ }
+    ensures { λ r. ⌜ (getD (clean «length» (streamAt (now (draft .entry)) place)) 0 0 ≡ c → s .metacommand ≡ false
+        → agrees (handled base (roomLeft s (now (list .entry)) (now (text .entry))) (readerOf s (now (groups .entry))) false place
+        (λ q. adds q (wordOf place (clean «length» (streamAt (now (draft .entry)) place))))) r s (now (list .entry)) (now (text .entry))
+        (now (list .exit)) (now (text .exit)) (now (groups .exit)) place) ⌝ }
 {
     let opened = s.opened;
     let depth = s.depth;

@@ -124,7 +124,12 @@ pub record Foreign (n : ℕ) : Type 0 where
 pub foreign : (n : ℕ) → 0x80 ≤ n → Foreign n
 unfolding visible white legal
 foreign n h =
-    let blank : white n ≡ false = simp (ne-eqb n 0x09 (λ e. omega arith), ne-eqb n 0x20 (λ e. omega arith), ne-eqb n 0x0A (λ e. omega arith)) in
+    let blank : white n ≡ false = simp (
+      ne-eqb n 0x09 (λ e. omega arith),
+      ne-eqb n 0x20 (λ e. omega arith),
+      ne-eqb n 0x0A
+          (λ e. omega arith),
+    ) in
     let seen : visible n ≡ false = rw (lt-leb n 0x7E (omega arith)) (and-false (leb 0x21 n)) in
     record { no-white = blank; no-visible = seen; no-legal = rw (seen, blank); no-remark = ne-eqb n 0x23 (λ e. omega arith) }
 
@@ -133,8 +138,12 @@ pub record Ending (b : ℕ) : Type 0 where
   pub is-legal : legal b ≡ true
   pub is-exclusive : exclusive b ≡ true
 
-ending-from : (from to : ℕ) → below (tested from to legal) 0x80 ≡ true → below (tested from to exclusive) 0x80 ≡ true → (b : ℕ) → b < 0x80 → from ≤ classOf b → classOf b ≤ to → Ending b
-ending-from from to s t b h g l = record { is-legal = of-class from to legal s b h g l; is-exclusive = of-class from to exclusive t b h g l }
+ending-from : (from to : ℕ) → below (tested from to legal) 0x80 ≡ true → below (tested from to exclusive) 0x80 ≡ true → (b : ℕ) → b < 0x80
+    → from ≤ classOf b → classOf b ≤ to → Ending b
+ending-from from to s t b h g l = record {
+  is-legal = of-class from to legal s b h g l;
+  is-exclusive = of-class from to exclusive t b h g l;
+}
 
 pub ending : (b : ℕ) → 6 ≤ classOf b → classOf b ≤ 9 → Ending b
 unfolding classOf visible white atomic exclusive inclusive legal

@@ -1,5 +1,5 @@
--- Copying clean bytes, one character at a time: what stands at the front of the part, and what is still to be copied, make up the whole, and
--- behind it the part is as it was. A byte that is a character by itself and a character that is re-encoded are one step alike.
+-- Copying clean bytes, one character at a time: what stands at the front of the part, and what is still to be copied, make up the whole,
+-- and behind it the part is as it was. A byte that is a character by itself and a character that is re-encoded are one step alike.
 use mathlib.Core.Path.{_≡_, refl, sym, _∙_, ap}
 use mathlib.Core.Bool.{Bool, true, false}
 use mathlib.Core.List.{List, [], _∷_, _++_, append-nil, append-assoc}
@@ -84,11 +84,13 @@ module _ (draft : List ℕ) (from n : ℕ) (before : List ℕ) where
   advance out i k number after c e h out′ is =
       let size = length (encoded number) in
       let front : length (take k out) ≡ k = length-take-le k out (omega (arith, c .long, c .within, c .fits)) in
-      let both : length (take k out ++ encoded number) ≡ k + size = length-append (take k out) (encoded number) ∙ ap (λ j. j + size) front in
+      let both : length (take k out ++ encoded number) ≡ k + size = length-append (take k out) (encoded number)
+      ∙ ap (λ j. j + size) front in
       let less : n - k - size ≡ n - (k + size) = omega arith in
       record {
         so-far =
-            ap (λ l. l ++ clean (n - (k + size)) (streamAt draft after)) (ap (take (k + size)) is ∙ take-at (take k out ++ encoded number) _ (k + size) both)
+            ap (λ l. l ++ clean (n - (k + size)) (streamAt draft after)) (ap (take (k + size)) is ∙ take-at (take k out ++ encoded number) _
+            (k + size) both)
             ∙ (append-assoc (take k out) (encoded number) _
             ∙ (ap (λ m. take k out ++ (encoded number ++ clean m (streamAt draft after))) (sym less)
             ∙ (ap (λ l. take k out ++ l) (sym (clean-next draft i (n - k) number after e h)) ∙ c .so-far)));

@@ -1,6 +1,6 @@
--- Why a test of one number is a test of each of its eight bytes. `and`, `xor` and a sum go byte by byte, as long as no sum of two bytes reaches
--- 256 and is carried; a difference does if it goes below 0 at no byte; and where two numbers are equal, so are their bytes. What is left is a
--- question about one byte, and antt computes the answer for each. Assumes nothing.
+-- Why a test of one number is a test of each of its eight bytes. `and`, `xor` and a sum go byte by byte, as long as no sum of two bytes
+-- reaches 256 and is carried; a difference does if it goes below 0 at no byte; and where two numbers are equal, so are their bytes. What is
+-- left is a question about one byte, and antt computes the answer for each. Assumes nothing.
 use mathlib.Core.Path.{_≡_, refl, sym, _∙_, ap, ap₂}
 use mathlib.Core.Bool.{Bool, true}
 use mathlib.Core.List.{List, [], _∷_}

@@ -1,5 +1,5 @@
--- How long a token and a string may be, over every length and every limit: up to the limit they are read whole, and one byte more is refused at
--- its own place, however much follows.
+-- How long a token and a string may be, over every length and every limit: up to the limit they are read whole, and one byte more is
+-- refused at its own place, however much follows.
 use mathlib.Core.Path.{_≡_, refl, sym, _∙_, ap}
 use mathlib.Core.Bool.{Bool, true, false, not, _&&_}
 use mathlib.Core.List.{List}
@@ -33,7 +33,8 @@ Row draft least most i n =
 module _ (L : Limits) (one : 1 ≤ L .token) (draft : List ℕ) (i n : ℕ) (all : Row draft 3 4 i n) (some : 1 ≤ n)
     (no-bar : getD draft i 0 ≡ 0x7C → ⊥) where
   -- its first `m` characters
-  beginning : (m : ℕ) → 1 ≤ m → m ≤ n → m ≤ L .token → first (tokens L between (streamAt draft i)) ≡ first (tokens L (word i m) (streamAt draft (i + m)))
+  beginning : (m : ℕ) → 1 ≤ m → m ≤ n → m ≤ L .token
+      → first (tokens L between (streamAt draft i)) ≡ first (tokens L (word i m) (streamAt draft (i + m)))
   beginning m g h l =
       let b = getD draft i 0 in
       let k = all .1 i (omega arith) (omega arith) in
@@ -74,7 +75,8 @@ module _ (L : Limits) (one : 1 ≤ L .token) (draft : List ℕ) (i n : ℕ) (all
 -- `n` bytes of plain data from `i` on, in a quoted string or a curly one.
 module _ (L : Limits) (draft : List ℕ) (o : Opened) (i n : ℕ) (all : Row draft 4 9 i n) where
   -- its first `m` bytes
-  held : (m : ℕ) → m ≤ n → m ≤ L .string → first (tokens L (string o 0 1 false) (streamAt draft i)) ≡ first (tokens L (string o m 1 false) (streamAt draft (i + m)))
+  held : (m : ℕ) → m ≤ n → m ≤ L .string → first (tokens L (string o 0 1 false) (streamAt draft i))
+      ≡ first (tokens L (string o m 1 false) (streamAt draft (i + m)))
   held m h l =
       let F : ℕ → Tokens = λ j. tokens L (string o (j - i) 1 false) (streamAt draft j) in
       let start : i - i ≡ 0 = omega arith in

@@ -1,5 +1,6 @@
--- The tokens of a draft come one after another: each ends within the draft, behind where it began, within the limits of length, and the tokens
--- behind it are those from the byte after it on. A character that ends a token, left out, is looked at once more as where no token has begun.
+-- The tokens of a draft come one after another: each ends within the draft, behind where it began, within the limits of length, and the
+-- tokens behind it are those from the byte after it on. A character that ends a token, left out, is looked at once more as where no token
+-- has begun.
 use mathlib.Core.Path.{_≡_, refl, sym, _∙_, ap, subst}
 use mathlib.Core.Bool.{Bool, true, false, not, _&&_, false≢true}
 use mathlib.Core.List.{List}
@@ -14,8 +15,10 @@ use Rattle.chars.specs.Character.{characterAt, encoded}
 use Rattle.chars.specs.Stream.{Stream, next, stop, streamAt}
 use Rattle.chars.specs.declared.Character.the-variants.{Clean}
 use Rattle.tokens.specs.Sorts.{visible, white, atomic, exclusive, inclusive, legal}
-use Rattle.tokens.specs.Tokens.{simple, quoted, curly, Whole, Tokens, token, last, refused, Opened, State, between, comment, bar, word, string}
-use Rattle.tokens.specs.Tokens.{Outcome, goes, gives, ends, refuses, simply, closed, opens, begins, continues, inside, down, nested, step, follows, tokens}
+use Rattle.tokens.specs.Tokens.{simple, quoted, curly, Whole, Tokens, token, last, refused, Opened, State, between, comment, bar}
+use Rattle.tokens.specs.Tokens.{word, string}
+use Rattle.tokens.specs.Tokens.{Outcome, goes, gives, ends, refuses, simply, closed, opens, begins, continues, inside, down, nested}
+use Rattle.tokens.specs.Tokens.{step, follows, tokens}
 use Rattle.chars.specs.Stream.{clean}
 use Rattle.chars.proofs.Cases.{either}
 use Rattle.chars.proofs.Extent.{encoded-one}
@@ -38,8 +41,8 @@ unfolding simply
 simply-after place after n = refl
 
 module _ (L : Limits) (one : 1 ≤ L .token) (draft : List ℕ) where
-  -- A token that begins at `from` or behind it: where it stands, how long it may be, and that its text and data are as long as it says. Its text
-  -- is the draft's own bytes, and so is its data where that takes no more bytes than it has clean ones.
+  -- A token that begins at `from` or behind it: where it stands, how long it may be, and that its text and data are as long as it says. Its
+  -- text is the draft's own bytes, and so is its data where that takes no more bytes than it has clean ones.
   pub record Sound (from : ℕ) (w : Whole) : Type 0 where
     pub behind : from ≤ w .place
     pub on : w .place < w .after

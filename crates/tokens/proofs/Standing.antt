@@ -67,7 +67,8 @@ four-bytes draft at h =
 -- so many of them are one character
 pub taken :
     (draft : List ℕ) (at end r : ℕ) → at + 4 ≤ end → end ≤ length draft → 2 ≤ r → r ≤ 4
-    → utf8-char (take r (getD draft at 0 ∷ getD draft (at + 1) 0 ∷ getD draft (at + 2) 0 ∷ getD draft (at + 3) 0 ∷ drop (at + 4) draft)) ≡ true
+    → utf8-char (take r (getD draft at 0 ∷ getD draft (at + 1) 0 ∷ getD draft (at + 2) 0 ∷ getD draft (at + 3) 0 ∷ drop (at + 4) draft))
+    ≡ true
     → Wide draft at end r
 taken draft at end r h f g l e =
     record { several = g; there = omega arith; grammar = rw (four-bytes draft at (omega arith)) e }

@@ -1,5 +1,5 @@
--- Where no token has begun: whitespace and comments are passed over, and the character behind them begins a token, is one, opens a string, or
--- is illegal.
+-- Where no token has begun: whitespace and comments are passed over, and the character behind them begins a token, is one, opens a string,
+-- or is illegal.
 use mathlib.Core.Path.{_≡_, refl, sym, _∙_, ap}
 use mathlib.Core.Bool.{Bool, true, false, not}
 use mathlib.Core.List.{List}
@@ -16,7 +16,8 @@ use Rattle.chars.specs.declared.Character.the-variants.{Clean}
 use Rattle.chars.proofs.Cases.{either}
 use Rattle.chars.proofs.Streams.{at-end, at-character}
 use Rattle.tokens.specs.Sorts.{visible, white, atomic, exclusive, inclusive, legal}
-use Rattle.tokens.specs.Tokens.{State, between, comment, bar, word, Tokens, opens, begins, continues, simply, step, follows, tokens, first, shown}
+use Rattle.tokens.specs.Tokens.{State, between, comment, bar, word, Tokens, opens, begins, continues, simply, step, follows, tokens}
+use Rattle.tokens.specs.Tokens.{first, shown}
 use Rattle.tokens.specs.Runs.{classOf, pastAll}
 use Rattle.tokens.specs.declared.Token.the-variants.{Simple, Last, Refused}
 use Rattle.tokens.proofs.Passing.{class-at}

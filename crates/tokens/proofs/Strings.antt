@@ -1,5 +1,5 @@
--- String data, one character at a time, and plain data at once. A plain byte adds one clean byte, and a character above US-ASCII as many as it
--- takes; both leave level and backslashes as they are, in a quoted string and in a curly one alike.
+-- String data, one character at a time, and plain data at once. A plain byte adds one clean byte, and a character above US-ASCII as many as
+-- it takes; both leave level and backslashes as they are, in a quoted string and in a curly one alike.
 use mathlib.Core.Path.{_≡_, refl, sym, _∙_, ap}
 use mathlib.Core.Bool.{Bool, true, false, not, _&&_, and-false}
 use mathlib.Core.List.{List}
@@ -16,7 +16,8 @@ use Rattle.chars.specs.declared.Character.the-variants.{Clean}
 use Rattle.chars.proofs.Cases.{either, by-bound}
 use Rattle.chars.proofs.Extent.{encoded-one}
 use Rattle.chars.proofs.Streams.{at-character, at-none}
-use Rattle.tokens.specs.Tokens.{Sort, simple, quoted, curly, Opened, State, string, Tokens, up, down, nested, inside, closed, step, follows, tokens, first, shown}
+use Rattle.tokens.specs.Tokens.{Sort, simple, quoted, curly, Opened, State, string, Tokens, up, down, nested, inside, closed, step}
+use Rattle.tokens.specs.Tokens.{follows, tokens, first, shown}
 use Rattle.tokens.specs.Runs.{run, refusalOf, Wide, Data}
 use Rattle.tokens.specs.declared.Token.the-variants.{Refused}
 use Rattle.tokens.proofs.Passing.{class-at, carried, most}
@@ -55,7 +56,14 @@ module _ (L : Limits) (draft : List ℕ) (o : Opened) where
       let b = getD draft i 0 in
       let p = ordinary b g l in
       let one : length (encoded b) ≡ 1 = ap length (encoded-one b (low b (omega arith))) in
-      rw (next-at draft i h (omega arith), down-not (o .sort) b p, one, le-ltb (L .string) (n + 1) (omega arith), up-not (o .sort) b p, p .no-backslash)
+      rw (
+        next-at draft i h (omega arith),
+        down-not (o .sort) b p,
+        one,
+        le-ltb (L .string) (n + 1) (omega arith),
+        up-not (o .sort) b p,
+        p .no-backslash,
+      )
 
   -- a character of string data
   module _ (i number after n level : ℕ) (odd : Bool) (e : characterAt draft i ≡ Clean number after) where

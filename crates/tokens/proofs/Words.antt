@@ -17,7 +17,8 @@ use Rattle.chars.specs.Stream.{Stream, next, stop, streamAt}
 use Rattle.chars.specs.declared.Character.the-variants.{Clean}
 use Rattle.chars.proofs.Streams.{at-end, at-character}
 use Rattle.tokens.specs.Sorts.{visible, white, atomic, exclusive, inclusive, legal}
-use Rattle.tokens.specs.Tokens.{State, between, bar, word, Tokens, opens, begins, continues, simply, step, follows, tokens, first, shown}
+use Rattle.tokens.specs.Tokens.{State, between, bar, word, Tokens, opens, begins, continues, simply, step, follows, tokens, first}
+use Rattle.tokens.specs.Tokens.{shown}
 use Rattle.tokens.specs.Runs.{run}
 use Rattle.tokens.specs.declared.Token.the-variants.{Simple, Last, Refused}
 use Rattle.tokens.proofs.Passing.{class-at, carried, most, ends}
@@ -80,8 +81,8 @@ module _ (L : Limits) (draft : List ℕ) (begun : ℕ) where
       longer i (i - begun) (omega arith) low high (omega arith)
       ∙ ap (λ j. tokens L (word begun j) (streamAt draft (i + 1))) one)
 
--- What is known where plain characters behind a token's first have ended: its tokens are those from there on, and a plain character there is
--- one byte too many.
+-- What is known where plain characters behind a token's first have ended: its tokens are those from there on, and a plain character there
+-- is one byte too many.
 pub record Worded (draft : List ℕ) (begun i : ℕ) : Type 0 where
   pub same :
       tokens limits (word begun 1) (streamAt draft (begun + 1)) ≡ tokens limits (word begun (i - begun)) (streamAt draft i)

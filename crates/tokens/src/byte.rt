@@ -6,8 +6,8 @@ ghost use Prim.Native.Nat.{_+_, _-_, _≤_, _<_, min};
 ghost use lib.ListN.{length, take, drop};
 ghost use Rattle.tokens.specs.Runs.{classOf, run as runOf, bytesOf};
 
-// The class of any byte (specs/Runs.antt, classOf); `_` is nul, CR and all that is not US-ASCII. No arm lists two neighbours, since only then
-// the compiler makes one table of all the arms, and reads it where it lies.
+// The class of any byte (specs/Runs.antt, classOf); `_` is nul, CR and all that is not US-ASCII. No arm lists two neighbours, since only
+// then the compiler makes one table of all the arms, and reads it where it lies.
 fn rare(b: u8) -> u8
     ensures { λ r. ⌜ r ≡ classOf b ⌝ }
 {
@@ -135,8 +135,8 @@ fn rare(b: u8) -> u8
     }
 }
 
-// The class of a byte. What a draft is mostly made of is told by a few comparisons; each way out calls `rare` by itself, so that it stays a call
-// and the comparisons go into the loops.
+// The class of a byte. What a draft is mostly made of is told by a few comparisons; each way out calls `rare` by itself, so that it stays a
+// call and the comparisons go into the loops.
 pub fn class(b: u8) -> u8
     ensures { λ r. ⌜ r ≡ classOf b ⌝ }
 {
@@ -266,8 +266,8 @@ fn eight(draft: &[u8], at: usize) -> u64
     e + f * 0x100000000
 }
 
-// Whether each of the eight bytes of a number is from 20 to 7F hex: classes 1 to 8. None has its highest bit, so that no sum with 60 is carried
-// over to the next byte, and the sum has it from 20 on.
+// Whether each of the eight bytes of a number is from 20 to 7F hex: classes 1 to 8. None has its highest bit, so that no sum with 60 is
+// carried over to the next byte, and the sum has it from 20 on.
 fn all_remark(w: u64) -> bool
     ensures { λ r. ⌜ (r ≡ true → runOf 1 8 8 (bytesOf 8 w) ≡ 8) ⌝ }
 {
@@ -277,8 +277,8 @@ fn all_remark(w: u64) -> bool
     (w + 0x6060606060606060) & 0x8080808080808080 == 0x8080808080808080
 }
 
-// Whether each of the eight bytes of a number is from 20 to 7A hex and neither a quote nor a backslash: classes 4 to 9. Of the numbers `a` to `d`
-// each has the highest bit of a byte where one test is passed: from 20 on, no quote, no backslash, up to 7A.
+// Whether each of the eight bytes of a number is from 20 to 7A hex and neither a quote nor a backslash: classes 4 to 9. Of the numbers `a`
+// to `d` each has the highest bit of a byte where one test is passed: from 20 on, no quote, no backslash, up to 7A.
 fn all_data(w: u64) -> bool
     ensures { λ r. ⌜ (r ≡ true → runOf 4 9 8 (bytesOf 8 w) ≡ 8) ⌝ }
 {
@@ -314,7 +314,8 @@ fn block(draft: &[u8], at: usize, low: u8, high: u8) -> bool
 // A place from which on a run ends where it ends from `at` on: behind blocks of eight bytes that are seen at once to be part of it.
 fn past_blocks(draft: &[u8], at: usize, end: usize, low: u8, high: u8) -> usize
     requires { ⌜ (at ≤ end) × (end ≤ length (now draft)) ⌝ }
-    ensures { λ r. ⌜ (at ≤ r) × (r ≤ end) × (r + runOf low high (end - r) (drop r (now (draft .entry))) ≡ at + runOf low high (end - at) (drop at (now (draft .entry)))) ⌝ }
+    ensures { λ r. ⌜ (at ≤ r) × (r ≤ end) × (r + runOf low high (end - r) (drop r (now (draft .entry))) ≡ at + runOf low high (end - at)
+        (drop at (now (draft .entry)))) ⌝ }
 {
     let mut i = at;
     while 8 <= end - i {

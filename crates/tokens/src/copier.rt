@@ -22,7 +22,8 @@ fn put(out: &mut [u8], at: usize, bytes: [u8; 4], n: usize)
 
 // Copies clean bytes from a place of the draft on, `n` at most, to the front of a part.
 pub fn copy(draft: &[u8], from: usize, n: usize, out: &mut [u8]) -> Copied
-    ensures { λ r. ⌜ (r ≡ copied (now (draft .entry)) from n (now (out .entry))) × (now (out .exit) ≡ copiedInto (now (draft .entry)) from n (now (out .entry))) ⌝ }
+    ensures { λ r. ⌜ (r ≡ copied (now (draft .entry)) from n (now (out .entry)))
+        × (now (out .exit) ≡ copiedInto (now (draft .entry)) from n (now (out .entry))) ⌝ }
 {
     if out.len() < n {
         return Copied::TooSmall;

@@ -7,7 +7,8 @@ ghost use Prim.Native.Nat.{_+_, _-_, _<_, _≤_, min};
 ghost use lib.ListN.{length, getD, drop};
 ghost use Rattle.chars.specs.Limits.{limits};
 ghost use Rattle.chars.specs.Stream.{streamAt};
-ghost use Rattle.tokens.specs.Tokens.{Opened, between, bar as barAt, word as wordAt, string as stringOf, tokens, first, shown, closed as closedBy, opens, follows, nested, down, tokenAt};
+ghost use Rattle.tokens.specs.Tokens.{Opened, between, bar as barAt, word as wordAt, string as stringOf, tokens, first, shown};
+ghost use Rattle.tokens.specs.Tokens.{closed as closedBy, opens, follows, nested, down, tokenAt};
 ghost use Rattle.tokens.specs.Runs.{classOf, run as runOf, pastBlanks, pastComment, pastAll, sortOf, openedAs, refusalOf, Data};
 
 mod byte;
@@ -82,7 +83,8 @@ fn refusal(answer: Character, length: usize) -> Token
 // The first place from `at` on that is not whitespace.
 fn blanks(draft: &[u8], at: usize) -> usize
     requires { ⌜ at ≤ length (now draft) ⌝ }
-    ensures { λ r. ⌜ (streamAt (now (draft .entry)) r ≡ pastBlanks (streamAt (now (draft .entry)) at)) × (at ≤ r) × (r ≤ length (now (draft .entry))) ⌝ }
+    ensures { λ r. ⌜ (streamAt (now (draft .entry)) r ≡ pastBlanks (streamAt (now (draft .entry)) at)) × (at ≤ r)
+        × (r ≤ length (now (draft .entry))) ⌝ }
 {
     let mut i = run(draft, at, draft.len(), 8, 9);
     while i < draft.len() {
@@ -100,7 +102,8 @@ fn blanks(draft: &[u8], at: usize) -> usize
 // The byte after the LF that ends a comment, or the place of what ends the draft's characters before.
 fn comment(draft: &[u8], at: usize) -> usize
     requires { ⌜ at ≤ length (now draft) ⌝ }
-    ensures { λ r. ⌜ (streamAt (now (draft .entry)) r ≡ pastComment (streamAt (now (draft .entry)) at)) × (at ≤ r) × (r ≤ length (now (draft .entry))) ⌝ }
+    ensures { λ r. ⌜ (streamAt (now (draft .entry)) r ≡ pastComment (streamAt (now (draft .entry)) at)) × (at ≤ r)
+        × (r ≤ length (now (draft .entry))) ⌝ }
 {
     let mut i = long_run(draft, at, draft.len(), 1, 8);
     while i < draft.len() {
@@ -121,7 +124,8 @@ fn comment(draft: &[u8], at: usize) -> usize
 // The first place from `at` on that is neither whitespace nor part of a comment.
 fn skip(draft: &[u8], at: usize) -> usize
     requires { ⌜ at ≤ length (now draft) ⌝ }
-    ensures { λ r. ⌜ (streamAt (now (draft .entry)) r ≡ pastAll false (streamAt (now (draft .entry)) at)) × (r ≤ length (now (draft .entry))) ⌝ }
+    ensures { λ r. ⌜ (streamAt (now (draft .entry)) r ≡ pastAll false (streamAt (now (draft .entry)) at))
+        × (r ≤ length (now (draft .entry))) ⌝ }
 {
     let mut i = blanks(draft, at);
     while i < draft.len() {
@@ -242,7 +246,8 @@ fn plain(draft: &[u8], at: usize, end: usize) -> usize
     wide_run(draft, at, end)
 }
 
-// From `at` on, behind `n` clean bytes of string data, where plain data ends, as far as the limit goes; behind an odd run of backslashes at once.
+// From `at` on, behind `n` clean bytes of string data, where plain data ends, as far as the limit goes; behind an odd run of backslashes at
+// once.
 fn ordinary(draft: &[u8], at: usize, n: usize, odd: bool) -> usize
     requires { ⌜ (at ≤ length (now draft)) × (n ≤ 4096) ⌝ }
     ensures { λ r. ⌜ Data (now (draft .entry)) odd at (min (length (now (draft .entry))) (at + (limits .string - n))) r ⌝ }
@@ -265,7 +270,8 @@ fn ordinary(draft: &[u8], at: usize, n: usize, odd: bool) -> usize
 // A string whose data begins at `from`.
 fn string(draft: &[u8], curly: bool, place: usize, prefix: usize, from: usize) -> Token
     requires { ⌜ from ≤ length (now draft) ⌝ }
-    ensures { λ r. ⌜ r ≡ first (tokens limits (stringOf (openedAs curly place prefix from) 0 1 false) (streamAt (now (draft .entry)) from)) ⌝ }
+    ensures { λ r. ⌜ r ≡ first (tokens limits (stringOf (openedAs curly place prefix from) 0 1 false) (streamAt (now (draft .entry)) from))
+        ⌝ }
 {
     let mut i = from;
     let mut n: usize = 0;
@@ -298,7 +304,8 @@ fn string(draft: &[u8], curly: bool, place: usize, prefix: usize, from: usize) -
 // A string that `open`, a quote or a curly, opens behind a prefix.
 fn opened(draft: &[u8], open: u8, place: usize, prefix: usize, from: usize) -> Token
     requires { ⌜ from ≤ length (now draft) ⌝ }
-    ensures { λ r. ⌜ r ≡ first (follows (opens «open» place prefix from) (λ state. tokens limits state (streamAt (now (draft .entry)) from))) ⌝ }
+    ensures { λ r. ⌜ r ≡ first (follows (opens «open» place prefix from) (λ state. tokens limits state
+        (streamAt (now (draft .entry)) from))) ⌝ }
 {
     if open == b'"' {
         return string(draft, false, place, prefix, from);
@@ -397,7 +404,8 @@ fn bar(draft: &[u8], begun: usize) -> Token
 
 // A character that is no US-ASCII, where no token has begun: it is illegal, if cleaning gives it at all.
 fn foreign_start(draft: &[u8], i: usize) -> Token
-    requires { ⌜ (i < length (now draft)) × (classOf (getD (now draft) i 0) ≡ 0) × (streamAt (now draft) i ≡ pastAll false (streamAt (now draft) i)) ⌝ }
+    requires { ⌜ (i < length (now draft)) × (classOf (getD (now draft) i 0) ≡ 0)
+        × (streamAt (now draft) i ≡ pastAll false (streamAt (now draft) i)) ⌝ }
     ensures { λ r. ⌜ r ≡ first (tokens limits between (streamAt (now (draft .entry)) i)) ⌝ }
 {
     let answer = chars::character_at(draft, i);
@@ -469,11 +477,12 @@ pub fn token_at(draft: &[u8], at: usize) -> Token
     token_from(draft, i)
 }
 
-// From `at` on, the place before `end` of the character that ends a word, of class 6 to 9; or 0, where plain characters reach `end` or another
-// character stands first.
+// From `at` on, the place before `end` of the character that ends a word, of class 6 to 9; or 0, where plain characters reach `end` or
+// another character stands first.
 fn ends_at(draft: &[u8], at: usize, end: usize) -> usize
     requires { ⌜ (at ≤ end) × (end ≤ length (now draft)) ⌝ }
-    ensures { λ r. ⌜ ((r ≡ 0 → ⊥) → (r ≡ at + runOf 3 4 (end - at) (drop at (now (draft .entry)))) × (r < end) × (6 ≤ classOf (getD (now (draft .entry)) r 0))) ⌝ }
+    ensures { λ r. ⌜ ((r ≡ 0 → ⊥) → (r ≡ at + runOf 3 4 (end - at) (drop at (now (draft .entry)))) × (r < end)
+        × (6 ≤ classOf (getD (now (draft .entry)) r 0))) ⌝ }
 {
     let mut i = at;
     while i < end {
@@ -492,10 +501,11 @@ fn ends_at(draft: &[u8], at: usize, end: usize) -> usize
     0
 }
 
-// The byte after the simple token that begins at a place, one that US-ASCII ends and that is neither a single character of its own nor begins with
-// a bar; or 0, which says nothing of the token.
+// The byte after the simple token that begins at a place, one that US-ASCII ends and that is neither a single character of its own nor
+// begins with a bar; or 0, which says nothing of the token.
 pub fn word_end(draft: &[u8], at: usize) -> usize
-    ensures { λ r. ⌜ ((r ≡ 0 → ⊥) → (at < r) × (at < length (now (draft .entry))) × (tokenAt limits (now (draft .entry)) at ≡ Token.Simple at r (r - at)) × (classOf (getD (now (draft .entry)) at 0) ≡ 4)) ⌝ }
+    ensures { λ r. ⌜ ((r ≡ 0 → ⊥) → (at < r) × (at < length (now (draft .entry)))
+        × (tokenAt limits (now (draft .entry)) at ≡ Token.Simple at r (r - at)) × (classOf (getD (now (draft .entry)) at 0) ≡ 4)) ⌝ }
 {
     if draft.len() <= at {
         return 0;

@@ -1,5 +1,5 @@
--- `chars::begins_with` meets its contract. The invariant: what the definition answers for the parts from `i` on is what it answers for the whole.
--- Assumes nothing.
+-- `chars::begins_with` meets its contract. The invariant: what the definition answers for the parts from `i` on is what it answers for the
+-- whole. Assumes nothing.
 use mathlib.Core.Path.{_≡_, refl, sym, _∙_}
 use Prim.Native.Nat.{_≤_, _-_}
 use native.Mathlib.Omega.{arith}

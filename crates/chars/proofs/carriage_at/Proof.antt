@@ -25,11 +25,13 @@ add-t8 c = search needs
 
 returns-2 : tie.Need-returns-2
 unfolding carriage
-returns-2 c = let a = c .before .before .before .args in rw (getD-drop, add-zero) (simp (eq-eqb (getD (a .draft .now) (a .at + 1) 0) 0x0A (c .if2 .taken)))
+returns-2 c = let a = c .before .before .before .args in rw (getD-drop, add-zero) (simp (eq-eqb (getD (a .draft .now) (a .at + 1) 0) 0x0A
+    (c .if2 .taken)))
 
 returns-3 : tie.Need-returns-3
 unfolding carriage
-returns-3 c = let a = c .before .before .before .args in rw (getD-drop, add-zero) (simp (ne-eqb (getD (a .draft .now) (a .at + 1) 0) 0x0A (c .if2 .left)))
+returns-3 c = let a = c .before .before .before .args in rw (getD-drop, add-zero) (simp (ne-eqb (getD (a .draft .now) (a .at + 1) 0) 0x0A
+    (c .if2 .left)))
 
 pub carriage-at-spec : {M : Type 1} → statement M
 carriage-at-spec =

@@ -69,7 +69,8 @@ loop-less c = omega arith
 loop-again : tie.Need-loop-again Inv-loop μ-loop
 loop-again c =
     let l = c .before .before .before .before .before .before .loop in (
-      rw (c .wide .ensures) (sym (onward _ (l .i) (l .left) (l .from) (l .to) (l .value) (omega arith) (omega arith) (omega arith) (omega arith)) ∙ l .inv .0),
+      rw (c .wide .ensures) (sym (onward _ (l .i) (l .left) (l .from) (l .to) (l .value) (omega arith) (omega arith) (omega arith)
+          (omega arith)) ∙ l .inv .0),
       omega arith,
       omega arith,
       room (l .value) (c .wide .result) (l .left) (omega (arith, c .wide .ensures)) (omega arith) (l .inv .3),

@@ -1,5 +1,5 @@
--- `chars::judged` meets its contract: each way out is the definition at the number that its tests leave. A high surrogate's partner is looked for
--- where its own sequence ends. Assumes nothing.
+-- `chars::judged` meets its contract: each way out is the definition at the number that its tests leave. A high surrogate's partner is
+-- looked for where its own sequence ends. Assumes nothing.
 use mathlib.Core.Path.{_≡_, sym, _∙_}
 use native.Mathlib.Omega.{arith}
 use borrow.Author.Tests.{le-leb, lt-leb}
@@ -24,15 +24,22 @@ returns c = rw (← c .before .before .sequence-at .ensures, c .enum-told .given
 
 returns-2 : tie.Need-returns-2
 unfolding judged
-returns-2 c = let n = c .before .before .number .given .0 .0 in rw (← c .before .before .before .before .sequence-at .ensures, c .before .before .number .given .1) (simp (lt-leb 0xD800 n (omega arith), lt-leb 0xDC00 n (omega arith)))
+returns-2 c = let n = c .before .before .number .given .0 .0 in rw (
+  ← c .before .before .before .before .sequence-at .ensures,
+  c .before .before .number .given .1,
+) (simp (lt-leb 0xD800 n (omega arith), lt-leb 0xDC00 n (omega arith)))
 
 returns-3 : tie.Need-returns-3
 unfolding judged
-returns-3 c = let n = c .before .before .before .number .given .0 .0 in rw (← c .before .before .before .before .before .sequence-at .ensures, c .before .before .before .number .given .1) (simp (le-leb 0xD800 n (omega arith), lt-leb n 0xDBFF (omega arith), le-leb 0xDC00 n (omega arith), lt-leb n 0xDFFF (omega arith)))
+returns-3 c = let n = c .before .before .before .number .given .0 .0 in rw
+    (← c .before .before .before .before .before .sequence-at .ensures, c .before .before .before .number .given .1)
+    (simp (le-leb 0xD800 n (omega arith), lt-leb n 0xDBFF (omega arith), le-leb 0xDC00 n (omega arith), lt-leb n 0xDFFF (omega arith)))
 
 returns-4 : tie.Need-returns-4
 unfolding judged
-returns-4 c = let n = c .before .before .before .before .number .given .0 .0 in rw (← c .before .before .before .before .before .before .sequence-at .ensures, c .before .before .before .before .number .given .1) (simp (le-leb 0xD800 n (omega arith), lt-leb n 0xDBFF (omega arith), le-leb 0xDC00 n (omega arith), le-leb n 0xDFFF (omega arith)))
+returns-4 c = let n = c .before .before .before .before .number .given .0 .0 in rw
+    (← c .before .before .before .before .before .before .sequence-at .ensures, c .before .before .before .before .number .given .1)
+    (simp (le-leb 0xD800 n (omega arith), lt-leb n 0xDBFF (omega arith), le-leb 0xDC00 n (omega arith), le-leb n 0xDFFF (omega arith)))
 
 sequence-at-requires-2 : tie.Need-sequence-at-requires-2
 sequence-at-requires-2 c κs = search needs

@@ -11,11 +11,25 @@ returns c = (simp (eq-eqb (c .before .args .b) 0xE0 (c .if1 .taken)), omega arit
 
 returns-2 : tie.Need-returns-2
 unfolding lowest
-returns-2 c = (simp (ne-eqb (c .before .before .args .b) 0xE0 (c .before .if1 .left), eq-eqb (c .before .before .args .b) 0xF0 (c .if2 .taken)), omega arith)
+returns-2 c = (
+  simp (
+    ne-eqb (c .before .before .args .b) 0xE0 (c .before .if1 .left),
+    eq-eqb (c .before .before .args .b) 0xF0
+        (c .if2 .taken),
+  ),
+  omega arith,
+)
 
 returns-3 : tie.Need-returns-3
 unfolding lowest
-returns-3 c = (simp (ne-eqb (c .before .before .args .b) 0xE0 (c .before .if1 .left), ne-eqb (c .before .before .args .b) 0xF0 (c .if2 .left)), omega arith)
+returns-3 c = (
+  simp (
+    ne-eqb (c .before .before .args .b) 0xE0 (c .before .if1 .left),
+    ne-eqb (c .before .before .args .b) 0xF0
+        (c .if2 .left),
+  ),
+  omega arith,
+)
 
 pub lowest-second-spec : {M : Type 1} → statement M
 lowest-second-spec = tie.close (tie.spec returns returns-2 returns-3)

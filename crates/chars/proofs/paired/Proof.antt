@@ -1,4 +1,5 @@
--- `chars::paired` meets its contract: the sequence behind is malformed, or its number is below, above or within the low surrogates. Assumes nothing.
+-- `chars::paired` meets its contract: the sequence behind is malformed, or its number is below, above or within the low surrogates. Assumes
+-- nothing.
 use borrow.Author.Tests.{le-leb, lt-leb}
 use native.Mathlib.Omega.{arith}
 use Rattle.chars.specs.Character.{paired}
@@ -40,7 +41,11 @@ add-t11 c = search needs
 
 returns-4 : tie.Need-returns-4
 unfolding paired
-returns-4 c = let g = c .before .before .before .second .given in rw (g .1) (simp (le-leb 0xDC00 (g .0 .0) (omega arith), le-leb (g .0 .0) 0xDFFF (omega arith)))
+returns-4 c = let g = c .before .before .before .second .given in rw (g .1) (simp (
+  le-leb 0xDC00 (g .0 .0) (omega arith),
+  le-leb (g .0 .0)
+      0xDFFF (omega arith),
+))
 
 pub paired-spec : {M : Type 1} → statement M
 paired-spec =

@@ -19,7 +19,8 @@ add-t11 : tie.Need-add-t11
 add-t11 c = search needs
 
 returns-2 : tie.Need-returns-2
-returns-2 c = let a = c .before .before .before .before .before .args in let law = single (a .draft .now) (a .at) (omega arith) (omega arith) in cc
+returns-2 c = let a = c .before .before .before .before .before .args in let law = single (a .draft .now) (a .at) (omega arith)
+    (omega arith) in cc
 
 returns-3 : tie.Need-returns-3
 returns-3 c = sym (stray _ _ (omega arith) (omega arith) (omega arith))
@@ -46,7 +47,8 @@ continued-requires : tie.Need-continued-requires
 continued-requires c κs = search needs
 
 returns-5 : tie.Need-returns-5
-returns-5 c = let a = c .before .before .before .before .before .before .before .before .before .before .before .args in let law = two (a .draft .now) (a .at) (omega arith) (omega arith) (omega arith) in cc
+returns-5 c = let a = c .before .before .before .before .before .before .before .before .before .before .before .args in let law = two
+    (a .draft .now) (a .at) (omega arith) (omega arith) (omega arith) in cc
 
 add-continued-2 : tie.Need-add-continued-2
 add-continued-2 c = search needs
@@ -58,7 +60,8 @@ continued-requires-2 : tie.Need-continued-requires-2
 continued-requires-2 c κs = search needs
 
 returns-6 : tie.Need-returns-6
-returns-6 c = let a = c .before .before .before .before .before .before .before .before .before .before .before .before .args in let law = three (a .draft .now) (a .at) (omega arith) (omega arith) (omega arith) in cc
+returns-6 c = let a = c .before .before .before .before .before .before .before .before .before .before .before .before .args in let law =
+    three (a .draft .now) (a .at) (omega arith) (omega arith) (omega arith) in cc
 
 add-continued-3 : tie.Need-add-continued-3
 add-continued-3 c = search needs
@@ -70,7 +73,8 @@ continued-requires-3 : tie.Need-continued-requires-3
 continued-requires-3 c κs = search needs
 
 returns-7 : tie.Need-returns-7
-returns-7 c = let a = c .before .before .before .before .before .before .before .before .before .before .before .before .args in let law = four (a .draft .now) (a .at) (omega arith) (omega arith) (omega arith) in cc
+returns-7 c = let a = c .before .before .before .before .before .before .before .before .before .before .before .before .args in let law =
+    four (a .draft .now) (a .at) (omega arith) (omega arith) (omega arith) in cc
 
 pub sequence-at-spec : {M : Type 1} → statement M
 sequence-at-spec =

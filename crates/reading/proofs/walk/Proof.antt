@@ -12,7 +12,8 @@ use Rattle.reading.proofs.walk.Statement.{statement}
 use Rattle.reading.proofs.walk.Tie as tie
 
 abbrev Inv-loop : tie.InvT-loop
-Inv-loop draft list₀ text₀ groups₀ at₀ s₀ list text groups at s = SoFar draft list₀ text₀ list text groups s at (ahead draft list text groups s at) × (length draft ≤ 16384)
+Inv-loop draft list₀ text₀ groups₀ at₀ s₀ list text groups at s = SoFar draft list₀ text₀ list text groups s at
+    (ahead draft list text groups s at) × (length draft ≤ 16384)
 
 abbrev μ-loop : tie.MeasureT-loop
 μ-loop draft list₀ text₀ groups₀ at₀ s₀ list text groups at s = length draft - at
@@ -22,8 +23,11 @@ start-requires c κs = search needs
 
 loop-holds : tie.Need-loop-holds Inv-loop μ-loop
 loop-holds c =
-    let a = c .before .before .before .before .before .args in
-    (rw (c .start .ensures) (at-first (a .draft .now) (a .list .now) (a .text .now) (a .groups .now) (c .before .before .before .before .before .pre .0) (c .before .before .before .before .before .pre .1)), c .before .before .before .before .before .pre .0)
+    let a = c .before .before .before .before .before .args in (
+      rw (c .start .ensures) (at-first (a .draft .now) (a .list .now) (a .text .now) (a .groups .now)
+          (c .before .before .before .before .before .pre .0) (c .before .before .before .before .before .pre .1)),
+      c .before .before .before .before .before .pre .0,
+    )
 
 go-round-requires : tie.Need-go-round-requires Inv-loop μ-loop
 go-round-requires c κs =
@@ -43,16 +47,26 @@ same-length-2 c = search needs
 
 same-length-3 : tie.Need-same-length-3 Inv-loop μ-loop
 same-length-3 c =
-    omega (arith, c .before .before .before .before .before .before .before .before .before .before .go-round .kept, c .before .before .before .before .before .before .before .before .before .before .before .before .before .before .loop .inv .0 .ready .array, c .before .before .before .before .before .before .before .before .before .before .before .before .before .before .before .before .before .before .before .before .pre .1)
+    omega (
+      arith,
+      c .before .before .before .before .before .before .before .before .before .before .go-round .kept,
+      c .before .before .before .before .before .before .before .before .before .before .before .before .before .before .loop .inv .0
+          .ready .array,
+      c .before .before .before .before .before .before .before .before .before .before .before .before .before .before
+          .before .before .before .before .before .before .pre .1,
+    )
 
 returns : tie.Need-returns Inv-loop μ-loop
 returns c =
-    let a = c .before .before .before .before .before .before .before .before .before .before .before .before .before .before .before .before .before .before .before .before .args in
+    let a = c .before .before .before .before .before .before .before .before .before .before .before .before .before .before .before
+    .before .before .before .before .before .args in
     let l = c .before .before .before .before .before .before .before .before .before .before .before .before .before .before .loop in
     let e = c .before .before .before .before .before .before .before .before .before .before .go-round .last in
     let held =
-    finished (a .draft .now) (a .list .now) (a .text .now) (l .list) (l .text) (l .groups) (l .s) (l .at) (l .inv .0) _ (e .1 .0) (e .1 .1 .0)
-    (e .1 .1 .1 .0) _ _ _ (rw (c .before .before .r .given .1) at (c .before .before .before .before .before .before .before .before .before .before .go-round .ensures)) in
+    finished (a .draft .now) (a .list .now) (a .text .now) (l .list) (l .text) (l .groups) (l .s) (l .at) (l .inv .0) _ (e .1 .0)
+    (e .1 .1 .0)
+    (e .1 .1 .1 .0) _ _ _ (rw (c .before .before .r .given .1) at
+    (c .before .before .before .before .before .before .before .before .before .before .go-round .ensures)) in
     (c .told .ensures ∙ held .0, (held .1, held .2))
 
 enum-known-r-2 : tie.Need-enum-known-r-2 Inv-loop μ-loop
@@ -61,18 +75,24 @@ enum-known-r-2 c = search needs
 loop-less : tie.Need-loop-less Inv-loop μ-loop
 unfolding goesRound
 loop-less c =
-    let went = rw (c .before .r2 .given .1) at (c .before .before .before .before .before .before .before .before .before .go-round .ensures) in
+    let went = rw (c .before .r2 .given .1) at
+    (c .before .before .before .before .before .before .before .before .before .go-round .ensures) in
     omega (arith, went .2, went .3)
 
 loop-again : tie.Need-loop-again Inv-loop μ-loop
 unfolding goesRound
 loop-again c =
-    let a = c .before .before .before .before .before .before .before .before .before .before .before .before .before .before .before .before .before .before .before .args in
+    let a = c .before .before .before .before .before .before .before .before .before .before .before .before .before .before .before
+    .before .before .before .before .args in
     let l = c .before .before .before .before .before .before .before .before .before .before .before .before .before .loop in
     let e = c .before .before .before .before .before .before .before .before .before .go-round .last in
-    let went = rw (c .before .r2 .given .1) at (c .before .before .before .before .before .before .before .before .before .go-round .ensures) in (
-      further (a .draft .now) (a .list .now) (a .text .now) (l .list) (l .text) (l .groups) (l .s) (l .at) (l .inv .0) _ (e .1 .0) (e .1 .1 .0) _
-          (went .0) (e .1 .1 .1 .0) _ (omega (arith, c .before .before .before .before .before .before .before .before .before .go-round .kept)) (omega (arith, c .before .before .before .before .before .before .before .before .before .go-round .kept)) (went .1),
+    let went = rw (c .before .r2 .given .1) at
+    (c .before .before .before .before .before .before .before .before .before .go-round .ensures) in (
+      further (a .draft .now) (a .list .now) (a .text .now) (l .list) (l .text) (l .groups) (l .s) (l .at) (l .inv .0) _ (e .1 .0)
+          (e .1 .1 .0) _
+          (went .0) (e .1 .1 .1 .0) _ (omega
+          (arith, c .before .before .before .before .before .before .before .before .before .go-round .kept))
+          (omega (arith, c .before .before .before .before .before .before .before .before .before .go-round .kept)) (went .1),
       l .inv .1,
     )
 

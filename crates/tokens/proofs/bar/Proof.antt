@@ -36,7 +36,8 @@ returns-2 c =
     let own : 1 ≤ class-at (a .draft .now) i = rw (c .if2 .taken) (omega arith) in
     let on : i + 1 ≡ a .begun + 2 = omega arith in
     ap (Last (a .begun)) (sym on)
-    ∙ sym (last limits (a .draft .now) (a .begun) i (getD (a .draft .now) i 0) (i + 1) (alone-at (a .draft .now) i (omega arith) own) (c .if2 .taken))
+    ∙ sym (last limits (a .draft .now) (a .begun) i (getD (a .draft .now) i 0) (i + 1) (alone-at (a .draft .now) i (omega arith) own)
+    (c .if2 .taken))
 
 word-requires : tie.Need-word-requires
 word-requires c κs = search needs

@@ -1,5 +1,5 @@
--- `tokens::blanks` meets its contract. The invariant: a run of blanks has ended here, and what the definition finds behind it is what it finds
--- behind the start. CR with LF behind it is one more blank. Assumes nothing.
+-- `tokens::blanks` meets its contract. The invariant: a run of blanks has ended here, and what the definition finds behind it is what it
+-- finds behind the start. CR with LF behind it is one more blank. Assumes nothing.
 use mathlib.Core.Path.{_≡_, sym, _∙_}
 use mathlib.Core.Logic.{⊎-elim}
 use Prim.Native.Nat.{_-_}
@@ -21,7 +21,8 @@ run-requires : tie.Need-run-requires Inv-loop μ-loop
 run-requires c κs = search needs
 
 loop-holds : tie.Need-loop-holds Inv-loop μ-loop
-loop-holds c = let a = c .before .before .args in blanked (a .draft .now) (a .at) (c .run .result) (c .before .before .pre) (c .run .ensures)
+loop-holds c = let a = c .before .before .args in blanked (a .draft .now) (a .at) (c .run .result) (c .before .before .pre)
+    (c .run .ensures)
 
 shared-slice-read-if1 : tie.Need-shared-slice-read-if1 Inv-loop μ-loop
 shared-slice-read-if1 c = omega arith
@@ -86,7 +87,8 @@ returns-3 : tie.Need-returns-3 Inv-loop μ-loop
 returns-3 c =
     let a = c .before .before .before .before .args in
     let l = c .before .loop in (
-      blanks-end (a .draft .now) (l .i) (λ number after e. absurd (none-behind (a .draft .now) (l .i) (omega arith) number after e)) ∙ l .inv .left,
+      blanks-end (a .draft .now) (l .i) (λ number after e. absurd (none-behind (a .draft .now) (l .i) (omega arith) number after e))
+          ∙ l .inv .left,
       l .inv .on,
       l .inv .there,
     )

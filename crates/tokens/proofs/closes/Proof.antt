@@ -14,7 +14,12 @@ cast-if3 c = search needs
 
 returns-2 : tie.Need-returns-2
 unfolding sortOf down
-returns-2 c = rw (c .before .before .if1 .left, c .before .if2 .taken, ne-eqb (c .before .before .before .args .number) 0x7D (c .if3 .taken))
+returns-2 c = rw (
+  c .before .before .if1 .left,
+  c .before .if2 .taken,
+  ne-eqb (c .before .before .before .args .number) 0x7D
+      (c .if3 .taken),
+)
 
 returns-3 : tie.Need-returns-3
 unfolding sortOf down

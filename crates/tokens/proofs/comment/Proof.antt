@@ -1,5 +1,5 @@
--- `tokens::comment` meets its contract. The invariant: a run of the comment's bytes has ended here, and what the definition finds behind the
--- comment is what it finds from the start. LF ends it, and so does what is no character. Assumes nothing.
+-- `tokens::comment` meets its contract. The invariant: a run of the comment's bytes has ended here, and what the definition finds behind
+-- the comment is what it finds from the start. LF ends it, and so does what is no character. Assumes nothing.
 use mathlib.Core.Path.{_≡_, sym, _∙_}
 use mathlib.Core.Logic.{⊎-elim}
 use Prim.Native.Nat.{_+_, _-_}
@@ -22,7 +22,8 @@ long-run-requires : tie.Need-long-run-requires Inv-loop μ-loop
 long-run-requires c κs = search needs
 
 loop-holds : tie.Need-loop-holds Inv-loop μ-loop
-loop-holds c = let a = c .before .before .args in remarked (a .draft .now) (a .at) (c .long-run .result) (c .before .before .pre) (c .long-run .ensures)
+loop-holds c = let a = c .before .before .args in remarked (a .draft .now) (a .at) (c .long-run .result) (c .before .before .pre)
+    (c .long-run .ensures)
 
 shared-slice-read-if1 : tie.Need-shared-slice-read-if1 Inv-loop μ-loop
 shared-slice-read-if1 c = search needs
@@ -50,7 +51,8 @@ returns-2 c =
     let l = c .before .before .before .before .before .loop in (
       comment-stops (a .draft .now) (l .i) (λ number after e.
           let is = c .before .character-at .ensures ∙ e in
-          ⊎-elim (λ k. absurd (let z = rw is at k in omega arith)) (λ k. absurd (let z = rw is at k in omega arith)) (c .match .keys2)) ∙ l .inv .left,
+          ⊎-elim (λ k. absurd (let z = rw is at k in omega arith)) (λ k. absurd (let z = rw is at k in omega arith)) (c .match .keys2))
+          ∙ l .inv .left,
       l .inv .on,
       l .inv .there,
     )
@@ -61,15 +63,19 @@ returns-3 c =
     let l = c .before .before .before .before .before .before .before .before .loop in
     let g = c .before .before .number .given in
     let is = sym (c .before .before .before .before .character-at .ensures) ∙ g .1 in
-    let far = reaches (a .draft .now) (l .i) (g .0 .0) (g .0 .1 .0) is in
-    (comment-ends (a .draft .now) (l .i) (g .0 .0) (g .0 .1 .0) is (c .if2 .taken) ∙ l .inv .left, omega (arith, l .inv .on, far .0), far .1)
+    let far = reaches (a .draft .now) (l .i) (g .0 .0) (g .0 .1 .0) is in (
+      comment-ends (a .draft .now) (l .i) (g .0 .0) (g .0 .1 .0) is (c .if2 .taken) ∙ l .inv .left,
+      omega (arith, l .inv .on, far .0),
+      far .1,
+    )
 
 long-run-requires-2 : tie.Need-long-run-requires-2 Inv-loop μ-loop
 long-run-requires-2 c κs =
     let a = c .before .before .before .before .before .before .before .before .before .before .before .args in
     let g = c .before .before .number .given in
     let is = sym (c .before .before .before .before .character-at .ensures) ∙ g .1 in
-    let far = reaches (a .draft .now) (c .before .before .before .before .before .before .before .before .loop .i) (g .0 .0) (g .0 .1 .0) is in
+    let far = reaches (a .draft .now) (c .before .before .before .before .before .before .before .before .loop .i) (g .0 .0) (g .0 .1 .0) is
+    in
     (far .1, omega arith)
 
 loop-less : tie.Need-loop-less Inv-loop μ-loop

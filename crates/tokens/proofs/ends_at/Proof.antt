@@ -1,5 +1,5 @@
--- `tokens::ends_at` meets its contract. The invariant: the place at which the definition ends the run of plain characters from here is the one
--- at which it ended it from the start; a byte above class 5 ends it here, and an answer of 0 claims nothing. Assumes nothing.
+-- `tokens::ends_at` meets its contract. The invariant: the place at which the definition ends the run of plain characters from here is the
+-- one at which it ended it from the start; a byte above class 5 ends it here, and an answer of 0 claims nothing. Assumes nothing.
 use mathlib.Core.Path.{_≡_, refl, _∙_}
 use Prim.Native.Nat.{_+_, _-_, _≤_}
 use native.Mathlib.Omega.{arith}

@@ -50,7 +50,8 @@ returns-3 c =
     let a = c .before .before .before .before .before .before .args in
     let g = c .before .before .answer .given in
     let is = sym (c .before .before .before .before .character-at .ensures) ∙ g .1 in
-    let high = foreign-number (a .draft .now) (a .i) (g .0 .0) (g .0 .1 .0) (c .before .before .before .before .before .before .pre .2) is (c .if1 .left) in
+    let high = foreign-number (a .draft .now) (a .i) (g .0 .0) (g .0 .1 .0) (c .before .before .before .before .before .before .pre .2) is
+    (c .if1 .left) in
     sym (illegal limits (a .draft .now) (a .begun) (a .i) (g .0 .0) (g .0 .1 .0) (a .i - a .begun) is (foreign (g .0 .0) high .no-legal))
 
 pub foreign-end-spec : {M : Type 1} → statement M

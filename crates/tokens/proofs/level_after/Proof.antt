@@ -18,7 +18,13 @@ add-result c = search needs
 
 returns-2 : tie.Need-returns-2
 unfolding sortOf up down nested
-returns-2 c = rw (c .before .before .if1 .left, c .before .if2 .taken, eq-eqb (c .before .before .before .args .number) 0x7B (c .if3 .taken), add-one)
+returns-2 c = rw (
+  c .before .before .if1 .left,
+  c .before .if2 .taken,
+  eq-eqb (c .before .before .before .args .number) 0x7B
+      (c .if3 .taken),
+  add-one,
+)
 
 cast-if4 : tie.Need-cast-if4
 cast-if4 c = search needs
@@ -28,11 +34,25 @@ sub-result c = search needs
 
 returns-3 : tie.Need-returns-3
 unfolding sortOf up down nested
-returns-3 c = rw (c .before .before .before .if1 .left, c .before .before .if2 .taken, ne-eqb (c .before .before .before .before .args .number) 0x7B (c .before .if3 .left), eq-eqb (c .before .before .before .before .args .number) 0x7D (c .if4 .taken))
+returns-3 c = rw (
+  c .before .before .before .if1 .left,
+  c .before .before .if2 .taken,
+  ne-eqb
+      (c .before .before .before .before .args .number) 0x7B (c .before .if3 .left),
+  eq-eqb (c .before .before .before .before .args .number)
+      0x7D (c .if4 .taken),
+)
 
 returns-4 : tie.Need-returns-4
 unfolding sortOf up down nested
-returns-4 c = rw (c .before .before .before .if1 .left, c .before .before .if2 .taken, ne-eqb (c .before .before .before .before .args .number) 0x7B (c .before .if3 .left), ne-eqb (c .before .before .before .before .args .number) 0x7D (c .if4 .left))
+returns-4 c = rw (
+  c .before .before .before .if1 .left,
+  c .before .before .if2 .taken,
+  ne-eqb
+      (c .before .before .before .before .args .number) 0x7B (c .before .if3 .left),
+  ne-eqb (c .before .before .before .before .args .number)
+      0x7D (c .if4 .left),
+)
 
 cast-if5 : tie.Need-cast-if5
 cast-if5 c = search needs

@@ -1,5 +1,5 @@
--- `tokens::skip` meets its contract. The invariant: blanks have ended here, and what the definition finds behind whitespace and comments is what
--- it finds from the start. Assumes nothing.
+-- `tokens::skip` meets its contract. The invariant: blanks have ended here, and what the definition finds behind whitespace and comments is
+-- what it finds from the start. Assumes nothing.
 use mathlib.Core.Path.{_≡_, sym, _∙_, ap}
 use mathlib.Core.Bool.{false}
 use Prim.Native.Nat.{_-_, _≤_}
@@ -52,7 +52,8 @@ loop-again c =
     let l = c .before .before .before .before .before .loop in
     let e = c .blanks2 .ensures in
     let behind = ap (pastAll false) (c .before .comment .ensures .0) in
-    let here = all-remark (c .before .before .before .before .before .before .before .before .args .draft .now) (l .i) (omega arith) (c .before .before .if1 .left) in (
+    let here = all-remark (c .before .before .before .before .before .before .before .before .args .draft .now) (l .i) (omega arith)
+    (c .before .before .if1 .left) in (
       ap (pastAll false) (e .0) ∙ (sym (blanks-first _) ∙ (behind ∙ (sym here ∙ l .inv .0))),
       e .0 ∙ sym (ap pastBlanks (e .0) ∙ blanks-twice _),
       e .2,

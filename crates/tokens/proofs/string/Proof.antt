@@ -32,7 +32,8 @@ abbrev μ-loop : tie.MeasureT-loop
 -- what is known behind plain data
 behind :
     (c : tie.After-ordinary Inv-loop μ-loop)
-    → Ordinarily (c .before .before .before .args .draft .now) (c .before .loop .i) (c .before .loop .n) (c .before .loop .odd) (c .ordinary .result)
+    → Ordinarily (c .before .before .before .args .draft .now) (c .before .loop .i) (c .before .loop .n) (c .before .loop .odd)
+    (c .ordinary .result)
 behind c =
     let l = c .before .loop in
     ordinarily (c .before .before .before .args .draft .now) (l .i) (l .n) (l .odd) (c .ordinary .result) (l .inv .2) (c .ordinary .ensures)
@@ -64,11 +65,13 @@ returns c =
     let l = c .before .before .before .before .loop in
     let o = openedAs (a .curly) (a .place) (a .prefix) (a .from) in
     let ran = behind (c .before .before .before) in
-    let none = stops limits (a .draft .now) (c .before .before .before .ordinary .result) (string o (l .n + (c .before .before .before .ordinary .result - l .i)) (l .level) (l .odd))
+    let none = stops limits (a .draft .now) (c .before .before .before .ordinary .result)
+    (string o (l .n + (c .before .before .before .ordinary .result - l .i)) (l .level) (l .odd))
     (λ number after e.
     let is = c .before .before .character-at .ensures ∙ e in
     ⊎-elim (λ k. absurd (let z = rw is at k in omega arith)) (λ k. absurd (let z = rw is at k in omega arith)) (c .before .match .keys2)) in
-    c .refusal .ensures ∙ (ap (refusalOf _) (c .before .before .character-at .ensures) ∙ (sym none ∙ (sym (ap first (ran .same o (l .level))) ∙ l .inv .0)))
+    c .refusal .ensures ∙ (ap (refusalOf _) (c .before .before .character-at .ensures)
+    ∙ (sym none ∙ (sym (ap first (ran .same o (l .level))) ∙ l .inv .0)))
 
 closes-requires : tie.Need-closes-requires Inv-loop μ-loop
 closes-requires c κs = search needs
@@ -87,7 +90,8 @@ returns-2 c =
     let is = sym (c .before .before .before .before .before .before .character-at .ensures) ∙ g .1 in
     let at = c .before .before .before .before .before .before .before .ordinary .result in
     let back = sym (ap first (ran .same o (l .level))) ∙ l .inv .0 in
-    c .closed .ensures ∙ (sym (closes-here limits (a .draft .now) o at (g .0 .0) (g .0 .1 .0) (l .n + (at - l .i)) (l .level) (l .odd) is (sym (c .before .before .closes .ensures) ∙ c .before .if1 .taken)) ∙ back)
+    c .closed .ensures ∙ (sym (closes-here limits (a .draft .now) o at (g .0 .0) (g .0 .1 .0) (l .n + (at - l .i)) (l .level) (l .odd) is
+    (sym (c .before .before .closes .ensures) ∙ c .before .if1 .taken)) ∙ back)
 
 encoded-length-requires : tie.Need-encoded-length-requires Inv-loop μ-loop
 encoded-length-requires c κs = search needs
@@ -107,10 +111,16 @@ returns-3 c =
     let at = c .before .before .before .before .before .before .before .before .ordinary .result in
     let back = sym (ap first (ran .same o (l .level))) ∙ l .inv .0 in
     let far = ran .fits in
-    sym (too-long limits (a .draft .now) o at (g .0 .0) (g .0 .1 .0) (l .n + (at - l .i)) (l .level) (l .odd) is (sym (c .before .before .before .closes .ensures) ∙ c .before .before .if1 .left) (omega (arith, c .before .encoded-length .ensures))) ∙ back
+    sym (too-long limits (a .draft .now) o at (g .0 .0) (g .0 .1 .0) (l .n + (at - l .i)) (l .level) (l .odd) is
+    (sym (c .before .before .before .closes .ensures) ∙ c .before .before .if1 .left)
+    (omega (arith, c .before .encoded-length .ensures))) ∙ back
 
 level-after-requires : tie.Need-level-after-requires Inv-loop μ-loop
-level-after-requires c κs = let l = c .before .before .before .before .before .before .before .before .before .loop in (l .inv .3, omega (arith, l .inv .4, l .inv .2))
+level-after-requires c κs = let l = c .before .before .before .before .before .before .before .before .before .loop in (
+  l .inv .3,
+  omega
+      (arith, l .inv .4, l .inv .2),
+)
 
 odd-after-requires : tie.Need-odd-after-requires Inv-loop μ-loop
 odd-after-requires c κs = search needs
@@ -146,10 +156,15 @@ loop-again c =
     let size = c .before .before .before .encoded-length .ensures in
     let many = encoded-size (g .0 .0) in
     let more = sym (c .before .before .before .before .before .closes .ensures) ∙ c .before .before .before .before .if1 .left in
-    let fits : l .n + (at - l .i) + c .before .before .before .encoded-length .result ≤ 4096 = omega (arith, c .before .before .if2 .left, ran .fits) in
+    let fits : l .n + (at - l .i) + c .before .before .before .encoded-length .result ≤ 4096 = omega (
+      arith,
+      c .before .before .if2 .left,
+      ran .fits,
+    ) in
     let deep = level-bounds (o .sort) (l .level) (g .0 .0) (l .odd) (l .inv .3) more in (
       rw (c .before .level-after .ensures, c .odd-after .ensures, size)
-          (sym (ap first (goes-on limits (a .draft .now) o at (g .0 .0) (g .0 .1 .0) (l .n + (at - l .i)) (l .level) (l .odd) is more (omega (arith, fits, size)))) ∙ back),
+          (sym (ap first (goes-on limits (a .draft .now) o at (g .0 .0) (g .0 .1 .0) (l .n + (at - l .i)) (l .level) (l .odd) is more
+          (omega (arith, fits, size)))) ∙ back),
       far .1,
       fits,
       rw (c .before .level-after .ensures) (deep .0),

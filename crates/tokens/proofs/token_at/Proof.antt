@@ -36,7 +36,8 @@ returns-3 : tie.Need-returns-3
 unfolding tokenAt
 returns-3 c =
     let a = c .before .before .before .before .before .args in
-    let same = passed limits false (streamAt (a .draft .now) (a .at)) ∙ ap (tokens limits between) (sym (c .before .before .skip .ensures .0)) in
+    let same = passed limits false (streamAt (a .draft .now) (a .at)) ∙ ap (tokens limits between)
+    (sym (c .before .before .skip .ensures .0)) in
     c .token-from .ensures ∙ sym (ap first same)
 
 pub token-at-spec : {M : Type 1} → statement M

@@ -70,7 +70,8 @@ returns-4 c =
     let is = alone-at (a .draft .now) i (c .before .before .before .before .before .before .before .before .pre .0) own in
     let no = neither limits (a .draft .now) i (c .before .before .before .before .before .before .before .before .pre .1) b (i + 1) is in
     let p = plain b (omega arith) (omega arith) in
-    c .bar .ensures ∙ sym (barred limits (a .draft .now) i b (i + 1) is (no .0) (no .1) (p .is-visible) (p .no-inclusive) (p .no-atomic) (eq-eqb b 0x7C (c .before .if4 .taken)))
+    c .bar .ensures ∙ sym (barred limits (a .draft .now) i b (i + 1) is (no .0) (no .1) (p .is-visible) (p .no-inclusive) (p .no-atomic)
+    (eq-eqb b 0x7C (c .before .if4 .taken)))
 
 word-requires : tie.Need-word-requires
 word-requires c κs = search needs
@@ -83,9 +84,11 @@ returns-5 c =
     let k = c .before .before .before .before .before .before .class .ensures in
     let own : 1 ≤ classOf b = omega arith in
     let is = alone-at (a .draft .now) i (c .before .before .before .before .before .before .before .before .before .pre .0) own in
-    let no = neither limits (a .draft .now) i (c .before .before .before .before .before .before .before .before .before .pre .1) b (i + 1) is in
+    let no = neither limits (a .draft .now) i (c .before .before .before .before .before .before .before .before .before .pre .1) b
+    (i + 1) is in
     let p = plain b (omega arith) (omega arith) in
-    c .word .ensures ∙ sym (worded limits (a .draft .now) i b (i + 1) is (no .0) (no .1) (p .is-visible) (p .no-inclusive) (p .no-atomic) (ne-eqb b 0x7C (c .before .before .if4 .left)))
+    c .word .ensures ∙ sym (worded limits (a .draft .now) i b (i + 1) is (no .0) (no .1) (p .is-visible) (p .no-inclusive) (p .no-atomic)
+    (ne-eqb b 0x7C (c .before .before .if4 .left)))
 
 word-requires-2 : tie.Need-word-requires-2
 word-requires-2 c κs = search needs
@@ -98,9 +101,11 @@ returns-6 c =
     let k = c .before .before .before .before .before .before .before .class .ensures in
     let own : 1 ≤ classOf b = omega arith in
     let is = alone-at (a .draft .now) i (c .before .before .before .before .before .before .before .before .before .before .pre .0) own in
-    let no = neither limits (a .draft .now) i (c .before .before .before .before .before .before .before .before .before .before .pre .1) b (i + 1) is in
+    let no = neither limits (a .draft .now) i (c .before .before .before .before .before .before .before .before .before .before .pre .1) b
+    (i + 1) is in
     let p = plain b (omega arith) (omega arith) in
-    c .word2 .ensures ∙ sym (worded limits (a .draft .now) i b (i + 1) is (no .0) (no .1) (p .is-visible) (p .no-inclusive) (p .no-atomic) (ne-eqb b 0x7C (c .before .before .before .if4 .left)))
+    c .word2 .ensures ∙ sym (worded limits (a .draft .now) i b (i + 1) is (no .0) (no .1) (p .is-visible) (p .no-inclusive) (p .no-atomic)
+    (ne-eqb b 0x7C (c .before .before .before .if4 .left)))
 
 add-t9 : tie.Need-add-t9
 add-t9 c = search needs
@@ -113,7 +118,8 @@ returns-7 c =
     let k = c .before .before .before .before .before .before .class .ensures in
     let own : 1 ≤ classOf b = omega arith in
     let is = alone-at (a .draft .now) i (c .before .before .before .before .before .before .before .before .before .pre .0) own in
-    let no = neither limits (a .draft .now) i (c .before .before .before .before .before .before .before .before .before .pre .1) b (i + 1) is in
+    let no = neither limits (a .draft .now) i (c .before .before .before .before .before .before .before .before .before .pre .1) b
+    (i + 1) is in
     let t = atomic-left b own (λ e. omega arith) (λ e. omega arith) (λ e. omega arith) (λ e. omega arith) (no .0) (no .1) in
     sym (alone limits (a .draft .now) i b (i + 1) is (no .0) (no .1) (t .is-visible) (t .no-inclusive) (t .is-atomic))
 

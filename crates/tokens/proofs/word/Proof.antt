@@ -32,10 +32,12 @@ run-requires : tie.Need-run-requires
 run-requires c κs = search needs
 
 -- what is known behind the plain characters
-behind : (c : tie.After-run) → Worded (c .before .before .before .args .draft .now) (c .before .before .before .args .begun) (c .run .result)
+behind : (c : tie.After-run) → Worded (c .before .before .before .args .draft .now) (c .before .before .before .args .begun)
+    (c .run .result)
 behind c =
     let a = c .before .before .before .args in
-    worded (a .draft .now) (a .begun) (c .before .until .result) (c .run .result) (c .before .before .before .pre) (c .before .until .ensures) (c .run .ensures)
+    worded (a .draft .now) (a .begun) (c .before .until .result) (c .run .result) (c .before .before .before .pre)
+    (c .before .until .ensures) (c .run .ensures)
 
 returns : tie.Need-returns
 returns c =
@@ -84,7 +86,8 @@ returns-3 c =
     let own : 1 ≤ classOf b = omega arith in
     let is = alone-at (a .draft .now) i (omega arith) own in
     let o = opening b (omega arith) in
-    c .opened .ensures ∙ (sym (opened limits (a .draft .now) (a .begun) i b (i + 1) (i - a .begun) is (o .is-legal) (o .no-exclusive) (o .is-inclusive)) ∙ back)
+    c .opened .ensures ∙ (sym (opened limits (a .draft .now) (a .begun) i b (i + 1) (i - a .begun) is (o .is-legal) (o .no-exclusive)
+    (o .is-inclusive)) ∙ back)
 
 returns-4 : tie.Need-returns-4
 returns-4 c =
@@ -109,7 +112,8 @@ returns-5 c =
     let own : 1 ≤ classOf b = omega arith in
     let is = alone-at (a .draft .now) i (omega arith) own in
     let p = plain b (omega arith) (omega arith) in
-    sym (too-long limits (a .draft .now) (a .begun) i b (i + 1) (i - a .begun) is (p .is-legal) (p .no-exclusive) (p .no-inclusive) (ran .full (omega arith) (omega arith) (omega arith))) ∙ back
+    sym (too-long limits (a .draft .now) (a .begun) i b (i + 1) (i - a .begun) is (p .is-legal) (p .no-exclusive) (p .no-inclusive)
+    (ran .full (omega arith) (omega arith) (omega arith))) ∙ back
 
 returns-6 : tie.Need-returns-6
 returns-6 c =
@@ -122,7 +126,8 @@ returns-6 c =
     let own : 1 ≤ classOf b = omega arith in
     let is = alone-at (a .draft .now) i (omega arith) own in
     let p = plain b (omega arith) (omega arith) in
-    sym (too-long limits (a .draft .now) (a .begun) i b (i + 1) (i - a .begun) is (p .is-legal) (p .no-exclusive) (p .no-inclusive) (ran .full (omega arith) (omega arith) (omega arith))) ∙ back
+    sym (too-long limits (a .draft .now) (a .begun) i b (i + 1) (i - a .begun) is (p .is-legal) (p .no-exclusive) (p .no-inclusive)
+    (ran .full (omega arith) (omega arith) (omega arith))) ∙ back
 
 sub-t7 : tie.Need-sub-t7
 sub-t7 c = omega (arith, behind (c .before .before .before .before .before .before .before .before) .on)
@@ -137,7 +142,8 @@ returns-7 c =
     let k = c .before .before .before .before .before .class .ensures in
     let own : 1 ≤ classOf b = omega arith in
     let is = alone-at (a .draft .now) i (omega arith) own in
-    let x = either (eqb (classOf b) 1) (λ t. ending-curly b (eqb-true (classOf b) 1 t)) (λ t. ending b (omega (arith, eqb-false (classOf b) 1 t)) (at-most b own)) in
+    let x = either (eqb (classOf b) 1) (λ t. ending-curly b (eqb-true (classOf b) 1 t))
+    (λ t. ending b (omega (arith, eqb-false (classOf b) 1 t)) (at-most b own)) in
     sym (ended limits (a .draft .now) (a .begun) i b (i + 1) (i - a .begun) is (x .is-legal) (x .is-exclusive)) ∙ back
 
 pub word-spec : {M : Type 1} → statement M

@@ -1,4 +1,5 @@
--- `tokens::word_end` meets its contract: a first character that only a word begins with, plain ones behind it, and one that ends it. Assumes nothing.
+-- `tokens::word_end` meets its contract: a first character that only a word begins with, plain ones behind it, and one that ends it.
+-- Assumes nothing.
 use mathlib.Core.Path.{_≡_, refl, sym, _∙_, ap}
 use Prim.Native.Nat.{_+_, _-_}
 use native.Mathlib.Omega.{arith}
@@ -61,10 +62,12 @@ returns-4 c =
     let ran = worded draft (a .at) (c .before .until .result) i (omega arith) (c .before .until .ensures) (there .0) in (
       ran .on,
       omega arith,
-      starts.worded limits draft (a .at) b (a .at + 1) (alone-at draft (a .at) (omega arith) (omega arith)) (p .no-white) (p .no-remark) (p .is-visible)
+      starts.worded limits draft (a .at) b (a .at + 1) (alone-at draft (a .at) (omega arith) (omega arith)) (p .no-white) (p .no-remark)
+          (p .is-visible)
           (p .no-inclusive) (p .no-atomic) (ne-eqb b 0x7C (c .before .before .if3 .left))
           ∙ (ap first (ran .same)
-          ∙ ended limits draft (a .at) i e (i + 1) (i - a .at) (alone-at draft i (omega arith) (omega arith)) (x .is-legal) (x .is-exclusive)),
+          ∙ ended limits draft (a .at) i e (i + 1) (i - a .at) (alone-at draft i (omega arith) (omega arith)) (x .is-legal)
+          (x .is-exclusive)),
       first-class,
     )
 

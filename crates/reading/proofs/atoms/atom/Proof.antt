@@ -11,7 +11,12 @@ group-begins-requires : tie.Need-group-begins-requires
 group-begins-requires c κs = search needs
 
 settled-requires : tie.Need-settled-requires
-settled-requires c κs = (c .before .before .group-begins .ensures .1, c .before .before .group-begins .ensures .2, c .before .before .before .before .before .before .pre .3, c .before .before .before .before .before .before .pre .4)
+settled-requires c κs = (
+  c .before .before .group-begins .ensures .1,
+  c .before .before .group-begins .ensures .2,
+  c .before .before .before .before .before .before .pre .3,
+  c .before .before .before .before .before .before .pre .4,
+)
 
 same-length : tie.Need-same-length
 same-length c = search needs
@@ -25,7 +30,13 @@ returns c =
     let p = c .before .before .before .before .before .before .before .before .before .before .before .pre in
     let gs = openGroups (a .groups .now) (a .s .depth) in
     λ T text e ready.
-    rw (begins-here (a .s) (a .groups .now) (a .place) T (a .c) e (p .1) (p .2) (c .before .before .before .before .before .before .before .before .if1 .taken), ← c .before .before .before .before .before .before .before .group-begins .ensures .0 (a .place) T gs (so-many (a .groups .now) (a .s .depth)))
+    rw (
+      begins-here (a .s) (a .groups .now) (a .place) T (a .c) e (p .1) (p .2)
+          (c .before .before .before .before .before .before .before .before .if1 .taken),
+      ←
+          c .before .before .before .before .before .before .before .group-begins .ensures .0 (a .place) T gs (so-many (a .groups .now)
+          (a .s .depth)),
+    )
     (c .before .before .before .before .settled .ensures T text ready)
 
 top-requires : tie.Need-top-requires
@@ -35,7 +46,12 @@ group-ends-requires : tie.Need-group-ends-requires
 group-ends-requires c κs = search needs
 
 settled-requires-2 : tie.Need-settled-requires-2
-settled-requires-2 c κs = (c .before .before .group-ends .ensures .1, c .before .before .group-ends .ensures .2, c .before .before .before .before .before .before .before .before .before .pre .3, c .before .before .before .before .before .before .before .before .before .pre .4)
+settled-requires-2 c κs = (
+  c .before .before .group-ends .ensures .1,
+  c .before .before .group-ends .ensures .2,
+  c .before .before .before .before .before .before .before .before .before .pre .3,
+  c .before .before .before .before .before .before .before .before .before .pre .4,
+)
 
 same-length-3 : tie.Need-same-length-3
 same-length-3 c = search needs
@@ -49,14 +65,25 @@ returns-2 c =
     let p = c .before .before .before .before .before .before .before .before .before .before .before .before .before .before .pre in
     let gs = openGroups (a .groups .now) (a .s .depth) in
     λ T text e ready.
-    rw (ends-here (a .s) (a .groups .now) (a .place) T (a .c) e (p .1) (p .2) (c .before .before .before .before .before .before .before .before .if2 .taken), ← c .before .before .before .before .before .before .before .group-ends .ensures .0 (a .place) T gs (so-many (a .groups .now) (a .s .depth)) (sym (c .before .before .before .before .before .before .before .before .before .top .ensures)))
+    rw (
+      ends-here (a .s) (a .groups .now) (a .place) T (a .c) e (p .1) (p .2)
+          (c .before .before .before .before .before .before .before .before .if2 .taken),
+      ←
+          c .before .before .before .before .before .before .before .group-ends .ensures .0 (a .place) T gs (so-many (a .groups .now)
+          (a .s .depth)) (sym (c .before .before .before .before .before .before .before .before .before .top .ensures)),
+    )
     (c .before .before .before .before .settled2 .ensures T text ready)
 
 element-ends-requires : tie.Need-element-ends-requires
 element-ends-requires c κs = search needs
 
 settled-requires-3 : tie.Need-settled-requires-3
-settled-requires-3 c κs = (c .before .before .element-ends .ensures .1 _, c .before .before .element-ends .ensures .2, c .before .before .before .before .before .before .before .before .before .before .pre .3, c .before .before .before .before .before .before .before .before .before .before .pre .4)
+settled-requires-3 c κs = (
+  c .before .before .element-ends .ensures .1 _,
+  c .before .before .element-ends .ensures .2,
+  c .before .before .before .before .before .before .before .before .before .before .pre .3,
+  c .before .before .before .before .before .before .before .before .before .before .pre .4,
+)
 
 same-length-5 : tie.Need-same-length-5
 same-length-5 c = search needs
@@ -66,18 +93,31 @@ same-length-6 c = search needs
 
 returns-3 : tie.Need-returns-3
 returns-3 c =
-    let a = c .before .before .before .before .before .before .before .before .before .before .before .before .before .before .before .args in
-    let p = c .before .before .before .before .before .before .before .before .before .before .before .before .before .before .before .pre in
+    let a = c .before .before .before .before .before .before .before .before .before .before .before .before .before .before .before .args
+    in
+    let p = c .before .before .before .before .before .before .before .before .before .before .before .before .before .before .before .pre
+    in
     let gs = openGroups (a .groups .now) (a .s .depth) in
     λ T text e ready.
-    rw (next-here (a .s) (a .groups .now) (a .place) T (a .c) e (p .1) (p .2) (c .before .before .before .before .before .before .before .before .if3 .taken), ← c .before .before .before .before .before .before .before .element-ends .ensures .0 (a .place) T gs (sym (c .before .before .before .before .before .before .before .before .before .before .top .ensures)))
+    rw (
+      next-here (a .s) (a .groups .now) (a .place) T (a .c) e (p .1) (p .2)
+          (c .before .before .before .before .before .before .before .before .if3 .taken),
+      ←
+          c .before .before .before .before .before .before .before .element-ends .ensures .0 (a .place) T gs
+          (sym (c .before .before .before .before .before .before .before .before .before .before .top .ensures)),
+    )
     (c .before .before .before .before .settled3 .ensures T text ready)
 
 array-ends-requires : tie.Need-array-ends-requires
 array-ends-requires c κs = search needs
 
 settled-requires-4 : tie.Need-settled-requires-4
-settled-requires-4 c κs = (c .before .before .array-ends .ensures .1 _, c .before .before .array-ends .ensures .2, c .before .before .before .before .before .before .before .before .before .before .pre .3, c .before .before .before .before .before .before .before .before .before .before .pre .4)
+settled-requires-4 c κs = (
+  c .before .before .array-ends .ensures .1 _,
+  c .before .before .array-ends .ensures .2,
+  c .before .before .before .before .before .before .before .before .before .before .pre .3,
+  c .before .before .before .before .before .before .before .before .before .before .pre .4,
+)
 
 same-length-7 : tie.Need-same-length-7
 same-length-7 c = search needs
@@ -87,11 +127,21 @@ same-length-8 c = search needs
 
 returns-4 : tie.Need-returns-4
 returns-4 c =
-    let a = c .before .before .before .before .before .before .before .before .before .before .before .before .before .before .before .args in
-    let p = c .before .before .before .before .before .before .before .before .before .before .before .before .before .before .before .pre in
+    let a = c .before .before .before .before .before .before .before .before .before .before .before .before .before .before .before .args
+    in
+    let p = c .before .before .before .before .before .before .before .before .before .before .before .before .before .before .before .pre
+    in
     let gs = openGroups (a .groups .now) (a .s .depth) in
     λ T text e ready.
-    rw (array-here (a .s) (a .groups .now) (a .place) T (a .c) e (p .1) (p .2) (last-atom (a .c) (p .0) (c .before .before .before .before .before .before .before .before .before .before .before .before .if1 .left) (c .before .before .before .before .before .before .before .before .before .if2 .left) (c .before .before .before .before .before .before .before .before .if3 .left)), ← c .before .before .before .before .before .before .before .array-ends .ensures .0 (a .place) T gs (sym (c .before .before .before .before .before .before .before .before .before .before .top .ensures)))
+    rw (
+      array-here (a .s) (a .groups .now) (a .place) T (a .c) e (p .1) (p .2) (last-atom (a .c) (p .0)
+          (c .before .before .before .before .before .before .before .before .before .before .before .before .if1 .left)
+          (c .before .before .before .before .before .before .before .before .before .if2 .left)
+          (c .before .before .before .before .before .before .before .before .if3 .left)),
+      ←
+          c .before .before .before .before .before .before .before .array-ends .ensures .0 (a .place) T gs
+          (sym (c .before .before .before .before .before .before .before .before .before .before .top .ensures)),
+    )
     (c .before .before .before .before .settled4 .ensures T text ready)
 
 pub atom-spec : {M : Type 1} → statement M

@@ -1,4 +1,5 @@
--- `reading::atoms::is_atom` meets its contract: one test after another, as the definition has them, and above `,` only `]` is left. Assumes nothing.
+-- `reading::atoms::is_atom` meets its contract: one test after another, as the definition has them, and above `,` only `]` is left. Assumes
+-- nothing.
 use native.Mathlib.Omega.{arith}
 use lib.Dec.{eqb}
 use borrow.Author.Tests.{eq-eqb, ne-eqb}

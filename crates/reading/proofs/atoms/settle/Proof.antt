@@ -28,20 +28,33 @@ returns c =
     let a = c .before .before .before .before .args in
     let few = c .if1 .taken in
     λ T text ready.
-    bare-stops (a .m) (a .place) (a .s) (a .list .now) text (a .groups .now) T (c .before .before .before .before .pre .1) ready (a .groups .now)
+    bare-stops (a .m) (a .place) (a .s) (a .list .now) text (a .groups .now) T (c .before .before .before .before .pre .1) ready
+    (a .groups .now)
     (omega (arith, c .before .one .ensures, c .before .before .before .before .pre .3 .held))
 
 bare-requires : tie.Need-bare-requires
 unfolding kinds-fine
 bare-requires c κs =
     let a = c .before .before .before .before .before .args in
-    let p = c .before .before .before .before .before .pre in
-    (p .0 .0, omega (arith, bare-count (a .m .first) (a .place), c .before .before .one .ensures, c .before .if1 .left, p .3 .held), omega (arith, p .2), omega (arith, p .3 .small, p .2))
+    let p = c .before .before .before .before .before .pre in (
+      p .0 .0,
+      omega (arith, bare-count (a .m .first) (a .place), c .before .before .one .ensures, c .before .if1 .left, p .3 .held),
+      omega
+          (arith, p .2),
+      omega (arith, p .3 .small, p .2),
+    )
 
 mul-row : tie.Need-mul-row
 mul-row c =
     let a = c .before .before .before .before .before .before .before .before .before .args in
-    omega (arith, c .before .before .before .bare .ensures .0, bare-count (a .m .first) (a .place), c .before .before .before .before .before .before .one .ensures, c .before .before .before .before .before .if1 .left, c .before .before .before .before .before .before .before .before .before .pre .3 .held)
+    omega (
+      arith,
+      c .before .before .before .bare .ensures .0,
+      bare-count (a .m .first) (a .place),
+      c .before .before .before .before .before .before .one .ensures,
+      c .before .before .before .before .before .if1 .left,
+      c .before .before .before .before .before .before .before .before .before .pre .3 .held,
+    )
 
 cast-row : tie.Need-cast-row
 cast-row c = search needs
@@ -52,7 +65,15 @@ cast-row-2 c = search needs
 row-requires : tie.Need-row-requires
 row-requires c κs =
     let a = c .before .before .before .before .before .before .before .before .before .args in
-    omega (arith, c .before .before .before .bare .ensures .0, c .before .before .before .bare .kept, bare-count (a .m .first) (a .place), c .before .before .before .before .before .before .one .ensures, c .before .before .before .before .before .if1 .left, c .before .before .before .before .before .before .before .before .before .pre .3 .held)
+    omega (
+      arith,
+      c .before .before .before .bare .ensures .0,
+      c .before .before .before .bare .kept,
+      bare-count (a .m .first) (a .place),
+      c .before .before .before .before .before .before .one .ensures,
+      c .before .before .before .before .before .if1 .left,
+      c .before .before .before .before .before .before .before .before .before .pre .3 .held,
+    )
 
 change-requires : tie.Need-change-requires
 unfolding kinds-fine
@@ -62,8 +83,19 @@ change-requires c κs =
 
 add-t20 : tie.Need-add-t20
 add-t20 c =
-    let a = c .before .before .before .before .before .before .before .before .before .before .before .before .before .before .before .before .args in
-    omega (arith, c .before .before .before .before .before .before .before .before .before .before .bare .ensures .0, bare-count (a .m .first) (a .place), c .before .before .before .before .before .before .before .before .before .before .before .before .before .one .ensures, c .before .before .before .before .before .before .before .before .before .before .before .before .if1 .left, c .before .before .before .before .before .before .before .before .before .before .before .before .before .before .before .before .pre .3 .held)
+    let a = c .before .before .before .before .before .before .before .before .before .before .before .before .before .before .before
+    .before .args in
+    omega (
+      arith,
+      c .before .before .before .before .before .before .before .before .before .before .bare .ensures .0,
+      bare-count
+          (a .m .first) (a .place),
+      c .before .before .before .before .before .before .before .before .before .before .before .before .before
+          .one .ensures,
+      c .before .before .before .before .before .before .before .before .before .before .before .before .if1 .left,
+      c .before .before .before .before .before .before .before .before .before .before .before .before .before .before .before .before
+          .pre .3 .held,
+    )
 
 same-length : tie.Need-same-length
 same-length c = search needs
@@ -74,12 +106,26 @@ same-length-2 c = search needs
 returns-2 : tie.Need-returns-2
 unfolding kinds-fine
 returns-2 c =
-    let a = c .before .before .before .before .before .before .before .before .before .before .before .before .before .before .before .before .args in
-    let p = c .before .before .before .before .before .before .before .before .before .before .before .before .before .before .before .before .pre in
+    let a = c .before .before .before .before .before .before .before .before .before .before .before .before .before .before .before
+    .before .args in
+    let p = c .before .before .before .before .before .before .before .before .before .before .before .before .before .before .before
+    .before .pre in
     λ T text ready.
     bare-goes (a .m) (a .place) (a .s) (a .list .now) text (a .groups .now) T (p .1) ready
-    (omega (arith, c .before .before .before .before .before .before .before .before .before .before .before .before .before .one .ensures, c .before .before .before .before .before .before .before .before .before .before .before .before .if1 .left, p .3 .held)) (c .before .before .before .before .before .before .row .last .0) (c .before .before .change .last .0) (c .before .before .before .before .before .before .before .before .before .before .bare .result) (c .before .before .change .result) (p .0 .1)
-    (c .before .before .before .before .before .before .before .before .before .before .bare .last .0) (c .before .before .before .before .before .before .before .before .before .before .bare .ensures .0) (c .before .before .before .before .before .before .before .before .before .before .bare .ensures .1) (c .before .before .before .before .before .before .row .ensures) (c .before .before .change .ensures .0) (c .before .before .change .ensures .1)
+    (omega (
+      arith,
+      c .before .before .before .before .before .before .before .before .before .before .before .before .before .one .ensures,
+      c .before .before .before .before .before .before .before .before .before .before .before .before .if1 .left,
+      p .3 .held,
+    ))
+    (c .before .before .before .before .before .before .row .last .0) (c .before .before .change .last .0)
+    (c .before .before .before .before .before .before .before .before .before .before .bare .result)
+    (c .before .before .change .result) (p .0 .1)
+    (c .before .before .before .before .before .before .before .before .before .before .bare .last .0)
+    (c .before .before .before .before .before .before .before .before .before .before .bare .ensures .0)
+    (c .before .before .before .before .before .before .before .before .before .before .bare .ensures .1)
+    (c .before .before .before .before .before .before .row .ensures) (c .before .before .change .ensures .0)
+    (c .before .before .change .ensures .1)
     (omega (arith, c .before .before .change .kept, p .3 .array))
 
 pub settle-spec : {M : Type 1} → statement M

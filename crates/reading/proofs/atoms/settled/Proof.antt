@@ -29,7 +29,8 @@ same-length-2 : tie.Need-same-length-2
 same-length-2 c = search needs
 
 returns-2 : tie.Need-returns-2
-returns-2 c = λ T text ready. rw (c .before .before .before .before .before .before .before .before .v2 .given .1) (c .before .before .before .before .settle .ensures T text ready)
+returns-2 c = λ T text ready. rw (c .before .before .before .before .before .before .before .before .v2 .given .1)
+    (c .before .before .before .before .settle .ensures T text ready)
 
 pub settled-spec : {M : Type 1} → statement M
 settled-spec =

@@ -28,14 +28,20 @@ returns-2 : tie.Need-returns-2
 unfolding groupsAfter
 returns-2 c =
     let a = c .before .before .args in
-    let room = c .before .before .pre .2 (c .if2 .taken) in
-    (rw (ne-eqb (a .change) 0 (c .before .if1 .left), eq-eqb (a .change) 1 (c .if2 .taken)) (pushed (a .groups .now) (a .depth) 0 (omega arith)), omega arith)
+    let room = c .before .before .pre .2 (c .if2 .taken) in (
+      rw (ne-eqb (a .change) 0 (c .before .if1 .left), eq-eqb (a .change) 1 (c .if2 .taken)) (pushed (a .groups .now) (a .depth) 0
+          (omega arith)),
+      omega arith,
+    )
 
 returns-3 : tie.Need-returns-3
 returns-3 c =
     let a = c .before .before .before .args in
-    let none = none-open (a .groups .now) (a .depth) (c .if3 .taken) in
-    (none-open (a .groups .now) 0 refl ∙ sym (ap (groupsAfter (a .change)) none ∙ none-after (a .change) (c .before .before .if1 .left) (c .before .if2 .left)), omega arith)
+    let none = none-open (a .groups .now) (a .depth) (c .if3 .taken) in (
+      none-open (a .groups .now) 0 refl ∙ sym (ap (groupsAfter (a .change)) none ∙ none-after (a .change) (c .before .before .if1 .left)
+          (c .before .if2 .left)),
+      omega arith,
+    )
 
 sub-last : tie.Need-sub-last
 sub-last c = search needs
@@ -43,8 +49,15 @@ sub-last c = search needs
 returns-4 : tie.Need-returns-4
 unfolding groupsAfter
 returns-4 c =
-    let a = c .before .before .before .before .args in
-    (rw (ne-eqb (a .change) 0 (c .before .before .before .if1 .left), ne-eqb (a .change) 1 (c .before .before .if2 .left), eq-eqb (a .change) 2 (c .if4 .taken)) (popped (a .groups .now) (a .depth)), omega arith)
+    let a = c .before .before .before .before .args in (
+      rw (
+        ne-eqb (a .change) 0 (c .before .before .before .if1 .left),
+        ne-eqb (a .change) 1 (c .before .before .if2 .left),
+        eq-eqb
+            (a .change) 2 (c .if4 .taken),
+      ) (popped (a .groups .now) (a .depth)),
+      omega arith,
+    )
 
 mul-groups-2 : tie.Need-mul-groups-2
 mul-groups-2 c = search needs
@@ -70,7 +83,11 @@ returns-5 : tie.Need-returns-5
 unfolding groupsAfter
 returns-5 c =
     let a = c .before .before .before .before .before .args in (
-      rw (ne-eqb (a .change) 0 (c .before .before .before .before .if1 .left), ne-eqb (a .change) 1 (c .before .before .before .if2 .left), ne-eqb (a .change) 2 (c .before .if4 .left))
+      rw (
+        ne-eqb (a .change) 0 (c .before .before .before .before .if1 .left),
+        ne-eqb (a .change) 1 (c .before .before .before .if2 .left),
+        ne-eqb (a .change) 2 (c .before .if4 .left),
+      )
           (counted (a .groups .now) (a .depth) (c .before .before .if3 .left) (omega arith)),
       c .before .before .before .before .before .pre .0,
     )

@@ -18,7 +18,11 @@ makes-requires c κs = search needs
 
 returns-2 : tie.Need-returns-2
 unfolding meaning madeEntities bares lasts cut groupsAfter kindOf kinds-fine textless bare within-groups counted
-returns-2 c = (λ place text groups t. rw (c .makes .ensures) (sym (next-element groups place (λ z. c .before .if1 .left (sym t ∙ z)))), λ depth. rw (c .makes .ensures) (omega arith), rw (c .makes .ensures) (refl, λ e. omega arith))
+returns-2 c = (
+  λ place text groups t. rw (c .makes .ensures) (sym (next-element groups place (λ z. c .before .if1 .left (sym t ∙ z)))),
+  λ depth. rw (c .makes .ensures) (omega arith),
+  rw (c .makes .ensures) (refl, λ e. omega arith),
+)
 
 pub element-ends-spec : {M : Type 1} → statement M
 element-ends-spec = tie.close (tie.spec returns makes-requires returns-2)

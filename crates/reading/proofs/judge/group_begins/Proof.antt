@@ -15,7 +15,11 @@ makes-requires c κs = search needs
 
 returns : tie.Need-returns
 unfolding meaning madeEntities bares lasts cut groupsAfter kindOf kinds-fine textless bare within-groups counted group-begins
-returns c = (λ place text groups d. rw (c .makes .ensures, lt-ltb (length groups) 64 (omega arith)), rw (c .makes .ensures) (omega arith), rw (c .makes .ensures) (refl, λ e. omega arith))
+returns c = (
+  λ place text groups d. rw (c .makes .ensures, lt-ltb (length groups) 64 (omega arith)),
+  rw (c .makes .ensures) (omega arith),
+  rw (c .makes .ensures) (refl, λ e. omega arith),
+)
 
 returns-2 : tie.Need-returns-2
 unfolding meaning madeEntities bares lasts cut groupsAfter kindOf kinds-fine textless bare within-groups counted group-begins

@@ -22,7 +22,12 @@ makes-requires c κs = search needs
 
 returns-3 : tie.Need-returns-3
 unfolding meaning madeEntities bares lasts cut groupsAfter kindOf kinds-fine textless bare within-groups counted
-returns-3 c = (λ place text groups d t. rw (c .makes .ensures) (sym (own-group groups place (λ z. c .before .before .if1 .left (sym d ∙ z)) (t ∙ c .before .if2 .left))), rw (c .makes .ensures) (omega arith), rw (c .makes .ensures) (refl, λ e. omega arith))
+returns-3 c = (
+  λ place text groups d t. rw (c .makes .ensures) (sym (own-group groups place (λ z. c .before .before .if1 .left (sym d ∙ z))
+      (t ∙ c .before .if2 .left))),
+  rw (c .makes .ensures) (omega arith),
+  rw (c .makes .ensures) (refl, λ e. omega arith),
+)
 
 pub group-ends-spec : {M : Type 1} → statement M
 group-ends-spec = tie.close (tie.spec returns returns-2 makes-requires returns-3)

@@ -22,7 +22,11 @@ makes-requires c κs = search needs
 
 returns-3 : tie.Need-returns-3
 unfolding meaning madeEntities bares lasts cut groupsAfter kindOf kinds-fine bare within-groups judged-last adds
-returns-3 c = (λ place text groups d. rw (c .makes .ensures, c .before .before .if1 .left, le-ltb 0 (length groups) (omega arith)), rw (c .makes .ensures) (omega arith))
+returns-3 c = (
+  λ place text groups d. rw (c .makes .ensures, c .before .before .if1 .left, le-ltb 0 (length groups) (omega arith)),
+  rw
+      (c .makes .ensures) (omega arith),
+)
 
 pub last-spec : {M : Type 1} → statement M
 last-spec = tie.close (tie.spec returns returns-2 makes-requires returns-3)

@@ -46,42 +46,120 @@ makes-requires-2 c κs = search needs
 
 returns-2 : tie.Need-returns-2
 unfolding meaning madeEntities bares lasts cut groupsAfter kindOf kinds-fine single bare within-groups counted adds named word
-returns-2 c = (λ place text groups e. let b = c .before .before .before .before .args .c in rw (c .makes2 .ensures, e, sym (c .before .before .is-number .ensures) ∙ c .before .if2 .taken), λ depth. rw (c .makes2 .ensures) (omega arith), rw (c .makes2 .ensures) (refl, (λ e. omega arith), refl, refl))
+returns-2 c = (
+  λ place text groups e. let b = c .before .before .before .before .args .c in rw (
+    c .makes2 .ensures,
+    e,
+    sym
+        (c .before .before .is-number .ensures) ∙ c .before .if2 .taken,
+  ),
+  λ depth. rw (c .makes2 .ensures) (omega arith),
+  rw
+      (c .makes2 .ensures) (refl, (λ e. omega arith), refl, refl),
+)
 
 makes-requires-3 : tie.Need-makes-requires-3
 makes-requires-3 c κs = search needs
 
 returns-3 : tie.Need-returns-3
 unfolding meaning madeEntities bares lasts cut groupsAfter kindOf kinds-fine single bare within-groups counted adds named word
-returns-3 c = (λ place text groups e. let b = c .before .before .before .before .before .args .c in rw (c .makes3 .ensures, e, sym (c .before .before .before .is-number .ensures) ∙ c .before .before .if2 .left, eq-eqb b 0x3F (c .before .if3 .taken)), λ depth. rw (c .makes3 .ensures) (omega arith), rw (c .makes3 .ensures) (refl, (λ e. omega arith), refl, refl))
+returns-3 c = (
+  λ place text groups e. let b = c .before .before .before .before .before .args .c in rw (
+    c .makes3 .ensures,
+    e,
+    sym
+        (c .before .before .before .is-number .ensures) ∙ c .before .before .if2 .left,
+    eq-eqb b 0x3F (c .before .if3 .taken),
+  ),
+  λ depth. rw
+      (c .makes3 .ensures) (omega arith),
+  rw (c .makes3 .ensures) (refl, (λ e. omega arith), refl, refl),
+)
 
 makes-requires-4 : tie.Need-makes-requires-4
 makes-requires-4 c κs = search needs
 
 returns-4 : tie.Need-returns-4
 unfolding meaning madeEntities bares lasts cut groupsAfter kindOf kinds-fine single bare within-groups counted adds named word
-returns-4 c = (λ place text groups e. let b = c .before .before .before .before .before .before .args .c in rw (c .makes4 .ensures, e, sym (c .before .before .before .before .is-number .ensures) ∙ c .before .before .before .if2 .left, ne-eqb b 0x3F (c .before .before .if3 .left), eq-eqb b 0x40 (c .before .if4 .taken)), λ depth. rw (c .makes4 .ensures) (omega arith), rw (c .makes4 .ensures) (refl, (λ e. omega arith), refl, refl))
+returns-4 c = (
+  λ place text groups e. let b = c .before .before .before .before .before .before .args .c in rw (
+    c .makes4 .ensures,
+    e,
+    sym
+        (c .before .before .before .before .is-number .ensures) ∙ c .before .before .before .if2 .left,
+    ne-eqb b 0x3F
+        (c .before .before .if3 .left),
+    eq-eqb b 0x40 (c .before .if4 .taken),
+  ),
+  λ depth. rw (c .makes4 .ensures) (omega arith),
+  rw
+      (c .makes4 .ensures) (refl, (λ e. omega arith), refl, refl),
+)
 
 makes-requires-5 : tie.Need-makes-requires-5
 makes-requires-5 c κs = search needs
 
 returns-5 : tie.Need-returns-5
 unfolding meaning madeEntities bares lasts cut groupsAfter kindOf kinds-fine single bare within-groups counted adds named word
-returns-5 c = (λ place text groups e. let b = c .before .before .before .before .before .before .before .args .c in rw (c .makes5 .ensures, e, sym (c .before .before .before .before .before .is-number .ensures) ∙ c .before .before .before .before .if2 .left, ne-eqb b 0x3F (c .before .before .before .if3 .left), ne-eqb b 0x40 (c .before .before .if4 .left), eq-eqb b 0x3D (c .before .if5 .taken)), λ depth. rw (c .makes5 .ensures) (omega arith), rw (c .makes5 .ensures) (refl, (λ e. omega arith), refl, refl))
+returns-5 c = (
+  λ place text groups e. let b = c .before .before .before .before .before .before .before .args .c in rw (
+    c .makes5 .ensures,
+    e,
+    sym (c .before .before .before .before .before .is-number .ensures)
+        ∙ c .before .before .before .before .if2 .left,
+    ne-eqb b 0x3F (c .before .before .before .if3 .left),
+    ne-eqb b 0x40
+        (c .before .before .if4 .left),
+    eq-eqb b 0x3D (c .before .if5 .taken),
+  ),
+  λ depth. rw (c .makes5 .ensures) (omega arith),
+  rw
+      (c .makes5 .ensures) (refl, (λ e. omega arith), refl, refl),
+)
 
 makes-requires-6 : tie.Need-makes-requires-6
 makes-requires-6 c κs = search needs
 
 returns-6 : tie.Need-returns-6
 unfolding meaning madeEntities bares lasts cut groupsAfter kindOf kinds-fine single bare within-groups counted adds named word
-returns-6 c = (λ place text groups e. let b = c .before .before .before .before .before .before .before .before .args .c in rw (c .makes6 .ensures, e, sym (c .before .before .before .before .before .before .is-number .ensures) ∙ c .before .before .before .before .before .if2 .left, ne-eqb b 0x3F (c .before .before .before .before .if3 .left), ne-eqb b 0x40 (c .before .before .before .if4 .left), ne-eqb b 0x3D (c .before .before .if5 .left), eq-eqb b 0x3A (c .before .if6 .taken)), λ depth. rw (c .makes6 .ensures) (omega arith), rw (c .makes6 .ensures) (refl, (λ e. omega arith), refl, refl))
+returns-6 c = (
+  λ place text groups e. let b = c .before .before .before .before .before .before .before .before .args .c in rw (
+    c .makes6 .ensures,
+    e,
+    sym (c .before .before .before .before .before .before .is-number .ensures)
+        ∙ c .before .before .before .before .before .if2 .left,
+    ne-eqb b 0x3F (c .before .before .before .before .if3 .left),
+    ne-eqb b 0x40
+        (c .before .before .before .if4 .left),
+    ne-eqb b 0x3D (c .before .before .if5 .left),
+    eq-eqb b 0x3A (c .before .if6 .taken),
+  ),
+  λ depth.
+      rw (c .makes6 .ensures) (omega arith),
+  rw (c .makes6 .ensures) (refl, (λ e. omega arith), refl, refl),
+)
 
 makes-requires-7 : tie.Need-makes-requires-7
 makes-requires-7 c κs = search needs
 
 returns-7 : tie.Need-returns-7
 unfolding meaning madeEntities bares lasts cut groupsAfter kindOf kinds-fine single bare within-groups counted adds named word
-returns-7 c = (λ place text groups e. let b = c .before .before .before .before .before .before .before .before .args .c in rw (c .makes7 .ensures, e, sym (c .before .before .before .before .before .before .is-number .ensures) ∙ c .before .before .before .before .before .if2 .left, ne-eqb b 0x3F (c .before .before .before .before .if3 .left), ne-eqb b 0x40 (c .before .before .before .if4 .left), ne-eqb b 0x3D (c .before .before .if5 .left), ne-eqb b 0x3A (c .before .if6 .left)), λ depth. rw (c .makes7 .ensures) (omega arith), rw (c .makes7 .ensures) (refl, (λ e. omega arith), refl, refl))
+returns-7 c = (
+  λ place text groups e. let b = c .before .before .before .before .before .before .before .before .args .c in rw (
+    c .makes7 .ensures,
+    e,
+    sym (c .before .before .before .before .before .before .is-number .ensures)
+        ∙ c .before .before .before .before .before .if2 .left,
+    ne-eqb b 0x3F (c .before .before .before .before .if3 .left),
+    ne-eqb b 0x40
+        (c .before .before .before .if4 .left),
+    ne-eqb b 0x3D (c .before .before .if5 .left),
+    ne-eqb b 0x3A (c .before .if6 .left),
+  ),
+  λ depth. rw
+      (c .makes7 .ensures) (omega arith),
+  rw (c .makes7 .ensures) (refl, (λ e. omega arith), refl, refl),
+)
 
 pub word-spec : {M : Type 1} → statement M
 word-spec =

@@ -1,5 +1,5 @@
--- `reading::round::go_round` meets its contract: whitespace, a byte by itself and a word are what Quick says, and any other token is handled as any.
--- Assumes nothing.
+-- `reading::round::go_round` meets its contract: whitespace, a byte by itself and a word are what Quick says, and any other token is
+-- handled as any. Assumes nothing.
 use mathlib.Core.Path.{sym, _∙_}
 use mathlib.Core.Bool.{not}
 use native.Mathlib.Omega.{arith}
@@ -23,7 +23,8 @@ returns : tie.Need-returns
 returns c =
     let a = c .before .before .before .before .before .before .before .before .args in
     let b = c .before .is-blank .ensures (c .if2 .taken) in
-    blank-on (a .draft .now) (a .list .now) (a .text .now) (a .groups .now) (a .s) (a .at) (c .before .before .before .if1 .taken) (c .before .before .before .before .before .before .before .before .pre .1) (b .0) (b .1)
+    blank-on (a .draft .now) (a .list .now) (a .text .now) (a .groups .now) (a .s) (a .at) (c .before .before .before .if1 .taken)
+    (c .before .before .before .before .before .before .before .before .pre .1) (b .0) (b .1)
 
 regular-requires : tie.Need-regular-requires
 regular-requires c κs = search needs
@@ -35,7 +36,8 @@ atom-requires : tie.Need-atom-requires
 atom-requires c κs =
     let a = c .before .before .before .before .before .before .before .before .before .before .before .before .before .before .args in
     let p = c .before .before .before .before .before .before .before .before .before .before .before .before .before .before .pre in
-    let flags = both (not (a .s .metacommand)) (not (a .s .opened)) (sym (c .before .before .before .before .before .regular .ensures) ∙ c .before .before .before .before .if3 .taken) in (
+    let flags = both (not (a .s .metacommand)) (not (a .s .opened)) (sym (c .before .before .before .before .before .regular .ensures)
+    ∙ c .before .before .before .before .if3 .taken) in (
       sym (c .before .before .before .is-atom .ensures) ∙ c .before .before .if4 .taken,
       not-true (a .s .metacommand) (flags .0),
       not-true (a .s .opened) (flags .1),
@@ -57,13 +59,23 @@ same-length-2 c = search needs
 
 returns-2 : tie.Need-returns-2
 returns-2 c =
-    let a = c .before .before .before .before .before .before .before .before .before .before .before .before .before .before .before .before .before .before .before .before .args in
-    let ready = c .before .before .before .before .before .before .before .before .before .before .before .before .before .before .before .before .before .before .before .before .pre .1 in
-    let flags = both (not (a .s .metacommand)) (not (a .s .opened)) (sym (c .before .before .before .before .before .before .before .before .before .before .before .regular .ensures) ∙ c .before .before .before .before .before .before .before .before .before .before .if3 .taken) in
+    let a = c .before .before .before .before .before .before .before .before .before .before .before .before .before .before .before
+    .before .before .before .before .before .args in
+    let ready = c .before .before .before .before .before .before .before .before .before .before .before .before .before .before .before
+    .before .before .before .before .before .pre .1 in
+    let flags = both (not (a .s .metacommand)) (not (a .s .opened))
+    (sym (c .before .before .before .before .before .before .before .before .before .before .before .regular .ensures)
+    ∙ c .before .before .before .before .before .before .before .before .before .before .if3 .taken) in
     rw (c .behind .ensures)
-    (atom-on (a .draft .now) (a .list .now) (a .text .now) (a .groups .now) (a .s) (a .at) (c .before .before .before .before .before .before .before .before .before .before .before .before .before .before .before .if1 .taken) ready
-    (sym (c .before .before .before .before .before .before .before .before .before .is-atom .ensures) ∙ c .before .before .before .before .before .before .before .before .if4 .taken) (not-true (a .s .opened) (flags .1)) (c .before .before .before .before .before .atom .result) (c .before .before .before .before .before .atom .last .0) (c .before .before .before .before .before .atom .last .1 .0)
-    (λ T e. c .before .before .before .before .before .atom .ensures T (a .text .now) e ready) (omega (arith, c .before .before .before .before .before .atom .kept)))
+    (atom-on (a .draft .now) (a .list .now) (a .text .now) (a .groups .now) (a .s) (a .at)
+    (c .before .before .before .before .before .before .before .before .before .before .before .before .before .before .before .if1
+    .taken) ready
+    (sym (c .before .before .before .before .before .before .before .before .before .is-atom .ensures)
+    ∙ c .before .before .before .before .before .before .before .before .if4 .taken) (not-true (a .s .opened) (flags .1))
+    (c .before .before .before .before .before .atom .result) (c .before .before .before .before .before .atom .last .0)
+    (c .before .before .before .before .before .atom .last .1 .0)
+    (λ T e. c .before .before .before .before .before .atom .ensures T (a .text .now) e ready)
+    (omega (arith, c .before .before .before .before .before .atom .kept)))
 
 array-begins-requires : tie.Need-array-begins-requires
 array-begins-requires c κs = search needs
@@ -74,21 +86,28 @@ add-t27 c = search needs
 returns-3 : tie.Need-returns-3
 returns-3 c =
     let a = c .before .before .before .before .before .before .before .before .before .before .before .before .before .before .args in
-    let flags = both (not (a .s .metacommand)) (not (a .s .opened)) (sym (c .before .before .before .before .before .regular .ensures) ∙ c .before .before .before .before .if3 .taken) in
+    let flags = both (not (a .s .metacommand)) (not (a .s .opened)) (sym (c .before .before .before .before .before .regular .ensures)
+    ∙ c .before .before .before .before .if3 .taken) in
     rw (c .array-begins .ensures)
-    (array-on (a .draft .now) (a .list .now) (a .text .now) (a .groups .now) (a .s) (a .at) (c .before .before .before .before .before .before .before .before .before .if1 .taken) (c .before .before .before .before .before .before .before .before .before .before .before .before .before .before .pre .1) (c .before .if5 .taken)
+    (array-on (a .draft .now) (a .list .now) (a .text .now) (a .groups .now) (a .s) (a .at)
+    (c .before .before .before .before .before .before .before .before .before .if1 .taken)
+    (c .before .before .before .before .before .before .before .before .before .before .before .before .before .before .pre .1)
+    (c .before .if5 .taken)
     (not-true (a .s .metacommand) (flags .0)) (not-true (a .s .opened) (flags .1)))
 
 word-end-requires : tie.Need-word-end-requires
 word-end-requires c κs = search needs
 
 sub-take-word : tie.Need-sub-take-word
-sub-take-word c = let w = c .before .before .before .before .word-end .ensures (c .before .before .before .if7 .taken) in omega (arith, w .0)
+sub-take-word c = let w = c .before .before .before .before .word-end .ensures (c .before .before .before .if7 .taken) in omega
+    (arith, w .0)
 
 take-word-requires : tie.Need-take-word-requires
 take-word-requires c κs =
-    let a = c .before .before .before .before .before .before .before .before .before .before .before .before .before .before .before .before .args in
-    let p = c .before .before .before .before .before .before .before .before .before .before .before .before .before .before .before .before .pre in
+    let a = c .before .before .before .before .before .before .before .before .before .before .before .before .before .before .before
+    .before .args in
+    let p = c .before .before .before .before .before .before .before .before .before .before .before .before .before .before .before
+    .before .pre in
     let w = c .before .before .before .before .word-end .ensures (c .before .before .before .if7 .taken) in
     let end = c .before .before .before .before .word-end .result in (
       omega (arith, p .0, w .1),
@@ -111,12 +130,17 @@ same-length-5 c = search needs
 
 returns-4 : tie.Need-returns-4
 returns-4 c =
-    let a = c .before .before .before .before .before .before .before .before .before .before .before .before .before .before .before .before .before .before .before .before .before .before .before .before .args in
-    let w = c .before .before .before .before .before .before .before .before .before .before .before .before .word-end .ensures (c .before .before .before .before .before .before .before .before .before .before .before .if7 .taken) in
+    let a = c .before .before .before .before .before .before .before .before .before .before .before .before .before .before .before
+    .before .before .before .before .before .before .before .before .before .args in
+    let w = c .before .before .before .before .before .before .before .before .before .before .before .before .word-end .ensures
+    (c .before .before .before .before .before .before .before .before .before .before .before .if7 .taken) in
     let took = c .before .before .before .before .before .before .before .take-word in
     rw (c .behind2 .ensures)
-    (word-on (a .draft .now) (a .list .now) (a .text .now) (a .groups .now) (a .s) (a .at) (c .before .before .before .before .before .before .before .before .before .before .before .before .word-end .result) (w .2) (w .0) (w .3)
-    (not-true (a .s .metacommand) (c .before .before .before .before .before .before .before .before .before .before .before .before .before .if6 .taken)) (took .result) (took .last .1 .0) (took .last .1 .1 .0) (took .last .1 .1 .1 .0) (took .ensures)
+    (word-on (a .draft .now) (a .list .now) (a .text .now) (a .groups .now) (a .s) (a .at)
+    (c .before .before .before .before .before .before .before .before .before .before .before .before .word-end .result) (w .2) (w .0)
+    (w .3)
+    (not-true (a .s .metacommand) (c .before .before .before .before .before .before .before .before .before .before .before .before .before
+    .if6 .taken)) (took .result) (took .last .1 .0) (took .last .1 .1 .0) (took .last .1 .1 .1 .0) (took .ensures)
     (omega (arith, took .kept)) (omega (arith, took .kept)))
 
 any-requires : tie.Need-any-requires

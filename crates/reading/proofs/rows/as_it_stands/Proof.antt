@@ -23,7 +23,8 @@ same-length c = search needs
 returns : tie.Need-returns
 returns c =
     let a = c .before .before .before .before .before .before .args in
-    part-filled (take (a .n) (drop (a .from) (a .draft .now))) (a .n) (a .text .now) (a .used) (c .before .before .plain .last .1 .1 .1 .0) (c .before .before .before .before .before .before .pre .0) (c .before .before .plain .ensures)
+    part-filled (take (a .n) (drop (a .from) (a .draft .now))) (a .n) (a .text .now) (a .used) (c .before .before .plain .last .1 .1 .1 .0)
+    (c .before .before .before .before .before .before .pre .0) (c .before .before .plain .ensures)
 
 pub as-it-stands-spec : {M : Type 1} → statement M
 as-it-stands-spec =

@@ -43,7 +43,8 @@ returns-2 c =
     let a = c .before .before .before .before .before .before .args in
     let one = one-bare (a .kind) (a .place) (c .before .before .before .before .if1 .left) in (
       rw one,
-      c .before .before .row .ensures ∙ rw one (written-one (a .list .now) (a .held) (a .used) (bare (kindOf (a .kind)) (a .place)) (a .kind)
+      c .before .before .row .ensures ∙ rw one (written-one (a .list .now) (a .held) (a .used) (bare (kindOf (a .kind)) (a .place))
+          (a .kind)
           (number-of-kind (a .kind) (omega arith) (omega arith))),
     )
 

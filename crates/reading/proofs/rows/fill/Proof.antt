@@ -1,5 +1,5 @@
--- `reading::rows::fill` meets its contract: where the clean bytes are the draft's own they stand there as they are, and else the part that is lent
--- comes back filled, by the copier's promise. Assumes nothing.
+-- `reading::rows::fill` meets its contract: where the clean bytes are the draft's own they stand there as they are, and else the part that
+-- is lent comes back filled, by the copier's promise. Assumes nothing.
 use mathlib.Core.Path.{_∙_, ap}
 use native.Mathlib.Omega.{arith}
 use lib.ListN.{length, drop, length-take}
@@ -31,7 +31,8 @@ same-length : tie.Need-same-length
 same-length c = search needs
 
 returns : tie.Need-returns
-returns c = rw (c .before .before .before .before .before .before .before .pre .2 (c .before .before .before .before .if1 .taken)) (c .before .before .as-it-stands .ensures)
+returns c = rw (c .before .before .before .before .before .before .before .pre .2 (c .before .before .before .before .if1 .taken))
+    (c .before .before .as-it-stands .ensures)
 
 same-length-2 : tie.Need-same-length-2
 same-length-2 c = search needs
@@ -40,7 +41,8 @@ returns-2 : tie.Need-returns-2
 returns-2 c =
     let a = c .before .before .before .before .before .before .before .args in
     let p = c .before .before .before .before .before .before .before .pre in
-    part-filled (clean (a .n) (streamAt (a .draft .now) (a .from))) (a .n) (a .text .now) (a .used) (c .before .before .copy .last .1 .1 .1 .0) (p .0)
+    part-filled (clean (a .n) (streamAt (a .draft .now) (a .from))) (a .n) (a .text .now) (a .used)
+    (c .before .before .copy .last .1 .1 .1 .0) (p .0)
     (c .before .before .copy .ensures .1 ∙ copied-front (a .draft .now) (a .from) (a .n) _ (search needs) (p .1))
 
 pub fill-spec : {M : Type 1} → statement M

@@ -1,4 +1,5 @@
--- `reading::rows::full` meets its contract: its six numbers by the row, its text and then its data by the part that is lent. Assumes nothing.
+-- `reading::rows::full` meets its contract: its six numbers by the row, its text and then its data by the part that is lent. Assumes
+-- nothing.
 use mathlib.Core.Path.{_∙_}
 use Rattle.reading.specs.Judging.{filled}
 use Rattle.reading.proofs.Listing.{number-of-kind, written-one}
@@ -43,13 +44,17 @@ same-length-2 c = search needs
 returns : tie.Need-returns
 unfolding filled
 returns c =
-    let a = c .before .before .before .before .before .before .before .before .before .before .before .before .before .before .before .args in
-    let p = c .before .before .before .before .before .before .before .before .before .before .before .before .before .before .before .pre in
+    let a = c .before .before .before .before .before .before .before .before .before .before .before .before .before .before .before .args
+    in
+    let p = c .before .before .before .before .before .before .before .before .before .before .before .before .before .before .before .pre
+    in
     let e = filled (a .draft .now) (a .kind) (a .place) (a .text-from) (a .text-len) (a .data-from) (a .data-len) (a .count) in
     let numbers = written-one (a .list .now) (a .held) (a .used) e (a .kind) (number-of-kind (a .kind) (p .0) (p .1)) in (
       c .before .before .before .before .before .before .before .before .before .before .row .ensures ∙ rw (p .8, p .9) at numbers,
-      both-filled (a .draft .now) (a .kind) (a .place) (a .text-from) (a .text-len) (a .data-from) (a .data-len) (a .count) (a .text .now) (a .used)
-          (c .before .before .before .before .before .before .fill .last .1 .1 .1 .1 .0) (c .before .before .fill2 .last .1 .1 .1 .1 .0) (p .3) (p .8) (p .9) (c .before .before .before .before .before .before .fill .ensures) (c .before .before .fill2 .ensures),
+      both-filled (a .draft .now) (a .kind) (a .place) (a .text-from) (a .text-len) (a .data-from) (a .data-len) (a .count) (a .text .now)
+          (a .used)
+          (c .before .before .before .before .before .before .fill .last .1 .1 .1 .1 .0) (c .before .before .fill2 .last .1 .1 .1 .1 .0)
+          (p .3) (p .8) (p .9) (c .before .before .before .before .before .before .fill .ensures) (c .before .before .fill2 .ensures),
     )
 
 pub full-spec : {M : Type 1} → statement M

@@ -1,5 +1,5 @@
--- `reading::rows::plain` meets its contract. The invariant: as many bytes of the draft stand at the front as turns were made, and behind them the
--- part is as it was lent. Assumes nothing.
+-- `reading::rows::plain` meets its contract. The invariant: as many bytes of the draft stand at the front as turns were made, and behind
+-- them the part is as it was lent. Assumes nothing.
 use mathlib.Core.Path.{_≡_, refl}
 use mathlib.Core.List.{_++_}
 use Prim.Native.Nat.{_-_, _≤_}
@@ -40,7 +40,8 @@ loop-again : tie.Need-loop-again Inv-loop μ-loop
 loop-again c =
     let a = c .before .before .before .args in
     let l = c .before .before .loop in (
-      rw (← getD-drop (a .from) (a .draft .now) (l .k) 0, l .inv .0, add-one) (one-more (drop (a .from) (a .draft .now)) (a .out .now) (l .k) (omega arith) (omega arith)),
+      rw (← getD-drop (a .from) (a .draft .now) (l .k) 0, l .inv .0, add-one) (one-more (drop (a .from) (a .draft .now)) (a .out .now)
+          (l .k) (omega arith) (omega arith)),
       simp length-set (l .inv .1),
       omega arith,
     )

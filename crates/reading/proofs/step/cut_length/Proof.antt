@@ -16,14 +16,22 @@ returns-2 c = rw (ne-eqb (c .before .before .args .how) 0 (c .before .if1 .left)
 
 returns-3 : tie.Need-returns-3
 unfolding cutLength
-returns-3 c = rw (ne-eqb (c .before .before .before .args .how) 0 (c .before .before .if1 .left), ne-eqb (c .before .before .before .args .how) 1 (c .before .if2 .left)) (omega arith)
+returns-3 c = rw (
+  ne-eqb (c .before .before .before .args .how) 0 (c .before .before .if1 .left),
+  ne-eqb
+      (c .before .before .before .args .how) 1 (c .before .if2 .left),
+) (omega arith)
 
 sub-result : tie.Need-sub-result
 sub-result c = search needs
 
 returns-4 : tie.Need-returns-4
 unfolding cutLength
-returns-4 c = rw (ne-eqb (c .before .before .before .args .how) 0 (c .before .before .if1 .left), ne-eqb (c .before .before .before .args .how) 1 (c .before .if2 .left))
+returns-4 c = rw (
+  ne-eqb (c .before .before .before .args .how) 0 (c .before .before .if1 .left),
+  ne-eqb
+      (c .before .before .before .args .how) 1 (c .before .if2 .left),
+)
 
 pub cut-length-spec : {M : Type 1} → statement M
 cut-length-spec = tie.close (tie.spec returns returns-2 returns-3 sub-result returns-4)

@@ -20,8 +20,16 @@ enum-known-v-2 c = search needs
 
 settle-requires : tie.Need-settle-requires
 settle-requires c κs =
-    let p = c .before .before .before .before .before .before .before .before .before .before .before .before .before .pre in
-    (p .0, rw (c .before .before .before .before .v2 .given .1) at (c .before .before .before .before .before .before .verdict .ensures .1), p .2, p .3, p .4, p .5, p .6, p .7)
+    let p = c .before .before .before .before .before .before .before .before .before .before .before .before .before .pre in (
+      p .0,
+      rw (c .before .before .before .before .v2 .given .1) at (c .before .before .before .before .before .before .verdict .ensures .1),
+      p .2,
+      p .3,
+      p .4,
+      p .5,
+      p .6,
+      p .7,
+    )
 
 same-length : tie.Need-same-length
 same-length c = search needs
@@ -29,7 +37,24 @@ same-length c = search needs
 returns : tie.Need-returns
 returns c =
     let a = c .before .before .before .before .before .before .before .before .before .before .args in
-    stopped (c .before .before .before .before .before .before .before .before .before .before .args .s) (c .before .before .before .before .before .before .before .before .before .before .args .list .now) (c .before .before .before .before .before .before .before .before .before .before .args .text .now) (c .before .before .before .before .before .before .before .before .before .before .args .groups .now) (c .before .before .before .before .before .before .before .before .before .before .args .place) (c .before .before .before .before .before .before .before .before .before .before .args .sort) (c .before .before .before .before .before .before .before .before .before .before .args .c) (clean (c .before .before .before .before .before .before .before .before .before .before .args .prefix) (streamAt (c .before .before .before .before .before .before .before .before .before .before .args .draft .now) (c .before .before .before .before .before .before .before .before .before .before .args .place))) (clean (c .before .before .before .before .before .before .before .before .before .before .args .data) (streamAt (c .before .before .before .before .before .before .before .before .before .before .args .draft .now) (c .before .before .before .before .before .before .before .before .before .before .args .from))) (c .before .before .before .verdict .result) (c .before .before .before .before .top .result) (c .before .before .before .verdict .ensures .0) (c .before .before .before .before .before .before .before .before .before .before .pre .1) (c .before .before .before .before .top .ensures) (c .before .v .given .0 .0) (bares (a .lead) (a .place)) (a .groups .now) (c .before .v .given .1)
+    stopped (c .before .before .before .before .before .before .before .before .before .before .args .s)
+    (c .before .before .before .before .before .before .before .before .before .before .args .list .now)
+    (c .before .before .before .before .before .before .before .before .before .before .args .text .now)
+    (c .before .before .before .before .before .before .before .before .before .before .args .groups .now)
+    (c .before .before .before .before .before .before .before .before .before .before .args .place)
+    (c .before .before .before .before .before .before .before .before .before .before .args .sort)
+    (c .before .before .before .before .before .before .before .before .before .before .args .c)
+    (clean (c .before .before .before .before .before .before .before .before .before .before .args .prefix)
+    (streamAt (c .before .before .before .before .before .before .before .before .before .before .args .draft .now)
+    (c .before .before .before .before .before .before .before .before .before .before .args .place)))
+    (clean (c .before .before .before .before .before .before .before .before .before .before .args .data)
+    (streamAt (c .before .before .before .before .before .before .before .before .before .before .args .draft .now)
+    (c .before .before .before .before .before .before .before .before .before .before .args .from)))
+    (c .before .before .before .verdict .result) (c .before .before .before .before .top .result)
+    (c .before .before .before .verdict .ensures .0)
+    (c .before .before .before .before .before .before .before .before .before .before .pre .1)
+    (c .before .before .before .before .top .ensures) (c .before .v .given .0 .0) (bares (a .lead) (a .place)) (a .groups .now)
+    (c .before .v .given .1)
 
 same-length-2 : tie.Need-same-length-2
 same-length-2 c = search needs
@@ -42,10 +67,45 @@ same-length-4 c = search needs
 
 returns-2 : tie.Need-returns-2
 returns-2 c =
-    let a = c .before .before .before .before .before .before .before .before .before .before .before .before .before .before .before .before .before .before .before .before .args in
+    let a = c .before .before .before .before .before .before .before .before .before .before .before .before .before .before .before
+    .before .before .before .before .before .args in
     let after = c .before .before .before .before .before .before .settle in
-    went (c .before .before .before .before .before .before .before .before .before .before .before .before .before .before .before .before .before .before .before .before .args .s) (c .before .before .before .before .before .before .before .before .before .before .before .before .before .before .before .before .before .before .before .before .args .list .now) (c .before .before .before .before .before .before .before .before .before .before .before .before .before .before .before .before .before .before .before .before .args .text .now) (c .before .before .before .before .before .before .before .before .before .before .before .before .before .before .before .before .before .before .before .before .args .groups .now) (c .before .before .before .before .before .before .before .before .before .before .before .before .before .before .before .before .before .before .before .before .args .place) (c .before .before .before .before .before .before .before .before .before .before .before .before .before .before .before .before .before .before .before .before .args .sort) (c .before .before .before .before .before .before .before .before .before .before .before .before .before .before .before .before .before .before .before .before .args .c) (clean (c .before .before .before .before .before .before .before .before .before .before .before .before .before .before .before .before .before .before .before .before .args .prefix) (streamAt (c .before .before .before .before .before .before .before .before .before .before .before .before .before .before .before .before .before .before .before .before .args .draft .now) (c .before .before .before .before .before .before .before .before .before .before .before .before .before .before .before .before .before .before .before .before .args .place))) (clean (c .before .before .before .before .before .before .before .before .before .before .before .before .before .before .before .before .before .before .before .before .args .data) (streamAt (c .before .before .before .before .before .before .before .before .before .before .before .before .before .before .before .before .before .before .before .before .args .draft .now) (c .before .before .before .before .before .before .before .before .before .before .before .before .before .before .before .before .before .before .before .before .args .from))) (c .before .before .before .before .before .before .before .before .before .before .before .before .before .verdict .result) (c .before .before .before .before .before .before .before .before .before .before .before .before .before .before .top .result) (c .before .before .before .before .before .before .before .before .before .before .before .before .before .verdict .ensures .0) (c .before .before .before .before .before .before .before .before .before .before .before .before .before .before .before .before .before .before .before .before .pre .1) (c .before .before .before .before .before .before .before .before .before .before .before .before .before .before .top .ensures) (c .before .before .before .before .before .before .before .before .before .before .before .v2 .given .0 .0) (bares (a .lead) (a .place)) (after .result)
-    (after .last .1 .0) (after .last .1 .1 .0) (after .last .1 .1 .1 .0) (c .before .before .before .before .before .before .before .before .before .before .before .v2 .given .1) (after .ensures)
+    went (c .before .before .before .before .before .before .before .before .before .before .before .before .before .before .before .before
+    .before .before .before .before .args .s)
+    (c .before .before .before .before .before .before .before .before .before .before .before .before .before .before .before .before
+    .before .before .before .before .args .list .now)
+    (c .before .before .before .before .before .before .before .before .before .before .before .before .before .before .before .before
+    .before .before .before .before .args .text .now)
+    (c .before .before .before .before .before .before .before .before .before .before .before .before .before .before .before .before
+    .before .before .before .before .args .groups .now)
+    (c .before .before .before .before .before .before .before .before .before .before .before .before .before .before .before .before
+    .before .before .before .before .args .place)
+    (c .before .before .before .before .before .before .before .before .before .before .before .before .before .before .before .before
+    .before .before .before .before .args .sort)
+    (c .before .before .before .before .before .before .before .before .before .before .before .before .before .before .before .before
+    .before .before .before .before .args .c)
+    (clean (c .before .before .before .before .before .before .before .before .before .before .before .before .before .before .before
+    .before .before .before .before .before .args .prefix)
+    (streamAt (c .before .before .before .before .before .before .before .before .before .before .before .before .before .before .before
+    .before .before .before .before .before .args .draft .now)
+    (c .before .before .before .before .before .before .before .before .before .before .before .before .before .before .before .before
+    .before .before .before .before .args .place)))
+    (clean (c .before .before .before .before .before .before .before .before .before .before .before .before .before .before .before
+    .before .before .before .before .before .args .data)
+    (streamAt (c .before .before .before .before .before .before .before .before .before .before .before .before .before .before .before
+    .before .before .before .before .before .args .draft .now)
+    (c .before .before .before .before .before .before .before .before .before .before .before .before .before .before .before .before
+    .before .before .before .before .args .from)))
+    (c .before .before .before .before .before .before .before .before .before .before .before .before .before .verdict .result)
+    (c .before .before .before .before .before .before .before .before .before .before .before .before .before .before .top .result)
+    (c .before .before .before .before .before .before .before .before .before .before .before .before .before .verdict .ensures .0)
+    (c .before .before .before .before .before .before .before .before .before .before .before .before .before .before .before .before
+    .before .before .before .before .pre .1)
+    (c .before .before .before .before .before .before .before .before .before .before .before .before .before .before .top .ensures)
+    (c .before .before .before .before .before .before .before .before .before .before .before .v2 .given .0 .0)
+    (bares (a .lead) (a .place)) (after .result)
+    (after .last .1 .0) (after .last .1 .1 .0) (after .last .1 .1 .1 .0)
+    (c .before .before .before .before .before .before .before .before .before .before .before .v2 .given .1) (after .ensures)
 
 pub decide-spec : {M : Type 1} → statement M
 decide-spec =

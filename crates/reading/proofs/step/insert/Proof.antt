@@ -1,4 +1,5 @@
--- `reading::step::insert` meets its contract: 17 and 18 for the begin group come first, and then the token is decided with it open. Assumes nothing.
+-- `reading::step::insert` meets its contract: 17 and 18 for the begin group come first, and then the token is decided with it open. Assumes
+-- nothing.
 use native.Mathlib.Omega.{arith}
 use Rattle.chars.specs.Stream.{streamAt, clean}
 use Rattle.reading.proofs.Deciding.{too-deep, no-room, brought, ready-within}
@@ -7,13 +8,30 @@ use Rattle.reading.proofs.step.insert.Statement.{statement}
 use Rattle.reading.proofs.step.insert.Tie as tie
 
 returns : tie.Need-returns
-returns c = too-deep (c .before .before .before .before .before .args .s) (c .before .before .before .before .before .args .list .now) (c .before .before .before .before .before .args .text .now) (c .before .before .before .before .before .args .groups .now) (c .before .before .before .before .before .args .place) (c .before .before .before .before .before .args .sort) (c .before .before .before .before .before .args .c) (clean (c .before .before .before .before .before .args .prefix) (streamAt (c .before .before .before .before .before .args .draft .now) (c .before .before .before .before .before .args .place))) (clean (c .before .before .before .before .before .args .data) (streamAt (c .before .before .before .before .before .args .draft .now) (c .before .before .before .before .before .args .from))) (c .before .before .before .before .before .args .groups .now) (c .if1 .taken)
+returns c = too-deep (c .before .before .before .before .before .args .s) (c .before .before .before .before .before .args .list .now)
+    (c .before .before .before .before .before .args .text .now) (c .before .before .before .before .before .args .groups .now)
+    (c .before .before .before .before .before .args .place) (c .before .before .before .before .before .args .sort)
+    (c .before .before .before .before .before .args .c) (clean (c .before .before .before .before .before .args .prefix)
+    (streamAt (c .before .before .before .before .before .args .draft .now) (c .before .before .before .before .before .args .place)))
+    (clean (c .before .before .before .before .before .args .data) (streamAt (c .before .before .before .before .before .args .draft .now)
+    (c .before .before .before .before .before .args .from))) (c .before .before .before .before .before .args .groups .now) (c .if1 .taken)
 
 sub-room : tie.Need-sub-room
 sub-room c = search needs
 
 returns-2 : tie.Need-returns-2
-returns-2 c = no-room (c .before .before .before .before .before .before .args .s) (c .before .before .before .before .before .before .args .list .now) (c .before .before .before .before .before .before .args .text .now) (c .before .before .before .before .before .before .args .groups .now) (c .before .before .before .before .before .before .args .place) (c .before .before .before .before .before .before .args .sort) (c .before .before .before .before .before .before .args .c) (clean (c .before .before .before .before .before .before .args .prefix) (streamAt (c .before .before .before .before .before .before .args .draft .now) (c .before .before .before .before .before .before .args .place))) (clean (c .before .before .before .before .before .before .args .data) (streamAt (c .before .before .before .before .before .before .args .draft .now) (c .before .before .before .before .before .before .args .from))) (omega (arith, c .before .if1 .left)) (c .before .before .before .before .before .before .args .groups .now) (c .if2 .taken)
+returns-2 c = no-room (c .before .before .before .before .before .before .args .s)
+    (c .before .before .before .before .before .before .args .list .now)
+    (c .before .before .before .before .before .before .args .text .now)
+    (c .before .before .before .before .before .before .args .groups .now) (c .before .before .before .before .before .before .args .place)
+    (c .before .before .before .before .before .before .args .sort) (c .before .before .before .before .before .before .args .c)
+    (clean (c .before .before .before .before .before .before .args .prefix)
+    (streamAt (c .before .before .before .before .before .before .args .draft .now)
+    (c .before .before .before .before .before .before .args .place)))
+    (clean (c .before .before .before .before .before .before .args .data)
+    (streamAt (c .before .before .before .before .before .before .args .draft .now)
+    (c .before .before .before .before .before .before .args .from))) (omega (arith, c .before .if1 .left))
+    (c .before .before .before .before .before .before .args .groups .now) (c .if2 .taken)
 
 push-requires : tie.Need-push-requires
 push-requires c κs = search needs
@@ -31,7 +49,21 @@ decide-requires c κs =
       p .2,
       p .3,
       p .4,
-      ready-within (c .before .before .before .before .before .before .before .before .before .before .before .before .before .args .s) (c .before .before .before .before .before .before .before .before .before .before .before .before .before .args .list .now) (c .before .before .before .before .before .before .before .before .before .before .before .before .before .args .text .now) (c .before .before .before .before .before .before .before .before .before .before .before .before .before .args .groups .now) (c .before .before .before .before .before .before .before .before .before .before .before .before .before .args .place) (c .before .before .before .before .before .before .before .before .before .before .before .before .before .args .sort) (c .before .before .before .before .before .before .before .before .before .before .before .before .before .args .c) (clean (c .before .before .before .before .before .before .before .before .before .before .before .before .before .args .prefix) (streamAt (c .before .before .before .before .before .before .before .before .before .before .before .before .before .args .draft .now) (c .before .before .before .before .before .before .before .before .before .before .before .before .before .args .place))) (clean (c .before .before .before .before .before .before .before .before .before .before .before .before .before .args .data) (streamAt (c .before .before .before .before .before .before .before .before .before .before .before .before .before .args .draft .now) (c .before .before .before .before .before .before .before .before .before .before .before .before .before .args .from))) (after .last .0) (omega (arith, c .before .before .before .before .before .before .before .before .if1 .left)) (p .5) (omega (arith, after .kept, p .5 .array)) (after .ensures),
+      ready-within (c .before .before .before .before .before .before .before .before .before .before .before .before .before .args .s)
+          (c .before .before .before .before .before .before .before .before .before .before .before .before .before .args .list .now)
+          (c .before .before .before .before .before .before .before .before .before .before .before .before .before .args .text .now)
+          (c .before .before .before .before .before .before .before .before .before .before .before .before .before .args .groups .now)
+          (c .before .before .before .before .before .before .before .before .before .before .before .before .before .args .place)
+          (c .before .before .before .before .before .before .before .before .before .before .before .before .before .args .sort)
+          (c .before .before .before .before .before .before .before .before .before .before .before .before .before .args .c)
+          (clean (c .before .before .before .before .before .before .before .before .before .before .before .before .before .args .prefix)
+          (streamAt (c .before .before .before .before .before .before .before .before .before .before .before .before .before .args .draft
+          .now) (c .before .before .before .before .before .before .before .before .before .before .before .before .before .args .place)))
+          (clean (c .before .before .before .before .before .before .before .before .before .before .before .before .before .args .data)
+          (streamAt (c .before .before .before .before .before .before .before .before .before .before .before .before .before .args .draft
+          .now) (c .before .before .before .before .before .before .before .before .before .before .before .before .before .args .from)))
+          (after .last .0) (omega (arith, c .before .before .before .before .before .before .before .before .if1 .left)) (p .5)
+          (omega (arith, after .kept, p .5 .array)) (after .ensures),
       p .6,
     )
 
@@ -47,8 +79,41 @@ same-length-3 c = search needs
 returns-3 : tie.Need-returns-3
 returns-3 c =
     let after = c .before .before .before .before .before .before .decide in
-    brought (c .before .before .before .before .before .before .before .before .before .before .before .before .before .before .before .before .before .before .before .before .args .s) (c .before .before .before .before .before .before .before .before .before .before .before .before .before .before .before .before .before .before .before .before .args .list .now) (c .before .before .before .before .before .before .before .before .before .before .before .before .before .before .before .before .before .before .before .before .args .text .now) (c .before .before .before .before .before .before .before .before .before .before .before .before .before .before .before .before .before .before .before .before .args .groups .now) (c .before .before .before .before .before .before .before .before .before .before .before .before .before .before .before .before .before .before .before .before .args .place) (c .before .before .before .before .before .before .before .before .before .before .before .before .before .before .before .before .before .before .before .before .args .sort) (c .before .before .before .before .before .before .before .before .before .before .before .before .before .before .before .before .before .before .before .before .args .c) (clean (c .before .before .before .before .before .before .before .before .before .before .before .before .before .before .before .before .before .before .before .before .args .prefix) (streamAt (c .before .before .before .before .before .before .before .before .before .before .before .before .before .before .before .before .before .before .before .before .args .draft .now) (c .before .before .before .before .before .before .before .before .before .before .before .before .before .before .before .before .before .before .before .before .args .place))) (clean (c .before .before .before .before .before .before .before .before .before .before .before .before .before .before .before .before .before .before .before .before .args .data) (streamAt (c .before .before .before .before .before .before .before .before .before .before .before .before .before .before .before .before .before .before .before .before .args .draft .now) (c .before .before .before .before .before .before .before .before .before .before .before .before .before .before .before .before .before .before .before .before .args .from))) (omega (arith, c .before .before .before .before .before .before .before .before .before .before .before .before .before .before .before .if1 .left)) (c .before .before .before .before .before .before .before .before .before .before .before .before .push .last .0) (after .result)
-    (after .last .1 .0) (after .last .1 .1 .0) (after .last .1 .1 .1 .0) (c .before .before .before .before .before .before .before .before .before .before .before .before .before .before .if2 .left) (c .before .before .before .before .before .before .before .before .before .before .before .before .push .ensures) (after .ensures)
+    brought (c .before .before .before .before .before .before .before .before .before .before .before .before .before .before .before
+    .before .before .before .before .before .args .s)
+    (c .before .before .before .before .before .before .before .before .before .before .before .before .before .before .before .before
+    .before .before .before .before .args .list .now)
+    (c .before .before .before .before .before .before .before .before .before .before .before .before .before .before .before .before
+    .before .before .before .before .args .text .now)
+    (c .before .before .before .before .before .before .before .before .before .before .before .before .before .before .before .before
+    .before .before .before .before .args .groups .now)
+    (c .before .before .before .before .before .before .before .before .before .before .before .before .before .before .before .before
+    .before .before .before .before .args .place)
+    (c .before .before .before .before .before .before .before .before .before .before .before .before .before .before .before .before
+    .before .before .before .before .args .sort)
+    (c .before .before .before .before .before .before .before .before .before .before .before .before .before .before .before .before
+    .before .before .before .before .args .c)
+    (clean (c .before .before .before .before .before .before .before .before .before .before .before .before .before .before .before
+    .before .before .before .before .before .args .prefix)
+    (streamAt (c .before .before .before .before .before .before .before .before .before .before .before .before .before .before .before
+    .before .before .before .before .before .args .draft .now)
+    (c .before .before .before .before .before .before .before .before .before .before .before .before .before .before .before .before
+    .before .before .before .before .args .place)))
+    (clean (c .before .before .before .before .before .before .before .before .before .before .before .before .before .before .before
+    .before .before .before .before .before .args .data)
+    (streamAt (c .before .before .before .before .before .before .before .before .before .before .before .before .before .before .before
+    .before .before .before .before .before .args .draft .now)
+    (c .before .before .before .before .before .before .before .before .before .before .before .before .before .before .before .before
+    .before .before .before .before .args .from)))
+    (omega (
+      arith,
+      c .before .before .before .before .before .before .before .before .before .before .before .before .before .before
+          .before .if1 .left,
+    )) (c .before .before .before .before .before .before .before .before .before .before .before .before .push .last
+    .0) (after .result)
+    (after .last .1 .0) (after .last .1 .1 .0) (after .last .1 .1 .1 .0)
+    (c .before .before .before .before .before .before .before .before .before .before .before .before .before .before .if2 .left)
+    (c .before .before .before .before .before .before .before .before .before .before .before .before .push .ensures) (after .ensures)
 
 pub insert-spec : {M : Type 1} → statement M
 insert-spec =

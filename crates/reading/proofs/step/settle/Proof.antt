@@ -19,15 +19,48 @@ shortage-requires : tie.Need-shortage-requires
 shortage-requires c κs = search needs
 
 returns : tie.Need-returns
-returns c = refused-as (c .before .before .before .before .before .before .args .draft .now) (c .before .before .before .before .before .before .args .lead) (c .before .before .before .before .before .before .args .m) (c .before .before .before .before .before .before .args .place) (c .before .before .before .before .before .before .args .prefix) (c .before .before .before .before .before .before .args .from) (c .before .before .before .before .before .before .args .data) (c .before .before .before .before .before .before .pre .5) (c .before .before .before .before .before .before .args .s) (c .before .before .before .before .before .before .args .list .now) (c .before .before .before .before .before .before .args .text .now) (c .before .before .before .before .before .before .args .groups .now) (c .before .shortage .result) (c .before .before .before .before .before .before .args .groups .now) (c .before .shortage .ensures) (c .if1 .taken)
+returns c = refused-as (c .before .before .before .before .before .before .args .draft .now)
+    (c .before .before .before .before .before .before .args .lead) (c .before .before .before .before .before .before .args .m)
+    (c .before .before .before .before .before .before .args .place) (c .before .before .before .before .before .before .args .prefix)
+    (c .before .before .before .before .before .before .args .from) (c .before .before .before .before .before .before .args .data)
+    (c .before .before .before .before .before .before .pre .5) (c .before .before .before .before .before .before .args .s)
+    (c .before .before .before .before .before .before .args .list .now)
+    (c .before .before .before .before .before .before .args .text .now)
+    (c .before .before .before .before .before .before .args .groups .now) (c .before .shortage .result)
+    (c .before .before .before .before .before .before .args .groups .now) (c .before .shortage .ensures) (c .if1 .taken)
 
 write-requires : tie.Need-write-requires
 unfolding kinds-fine
 write-requires c κs =
     let p = c .before .before .before .before .before .before .before .before .pre in
-    let fit = roomy (c .before .before .before .before .before .before .before .before .args .draft .now) (c .before .before .before .before .before .before .before .before .args .lead) (c .before .before .before .before .before .before .before .before .args .m) (c .before .before .before .before .before .before .before .before .args .place) (c .before .before .before .before .before .before .before .before .args .prefix) (c .before .before .before .before .before .before .before .before .args .from) (c .before .before .before .before .before .before .before .before .args .data) (c .before .before .before .before .before .before .before .before .pre .5) (c .before .before .before .before .before .before .before .before .args .s) (c .before .before .before .before .before .before .before .before .args .list .now) (c .before .before .before .before .before .before .before .before .args .text .now) (c .before .before .before .before .before .before .before .before .args .groups .now) (sym (c .before .before .before .shortage .ensures) ∙ c .before .before .if1 .left) (c .before .before .before .before .before .before .before .before .pre .6) in
-    let ready = p .6 in
-    (p .0, p .1 .0, p .1 .1, fit .0, fit .1, omega (arith, p .2), omega (arith, ready .small, p .2), omega (arith, p .3), omega (arith, p .4), p .5, p .7)
+    let fit = roomy (c .before .before .before .before .before .before .before .before .args .draft .now)
+    (c .before .before .before .before .before .before .before .before .args .lead)
+    (c .before .before .before .before .before .before .before .before .args .m)
+    (c .before .before .before .before .before .before .before .before .args .place)
+    (c .before .before .before .before .before .before .before .before .args .prefix)
+    (c .before .before .before .before .before .before .before .before .args .from)
+    (c .before .before .before .before .before .before .before .before .args .data)
+    (c .before .before .before .before .before .before .before .before .pre .5)
+    (c .before .before .before .before .before .before .before .before .args .s)
+    (c .before .before .before .before .before .before .before .before .args .list .now)
+    (c .before .before .before .before .before .before .before .before .args .text .now)
+    (c .before .before .before .before .before .before .before .before .args .groups .now)
+    (sym (c .before .before .before .shortage .ensures) ∙ c .before .before .if1 .left)
+    (c .before .before .before .before .before .before .before .before .pre .6) in
+    let ready = p .6 in (
+      p .0,
+      p .1 .0,
+      p .1 .1,
+      fit .0,
+      fit .1,
+      omega (arith, p .2),
+      omega (arith, ready .small, p .2),
+      omega (arith, p .3),
+      omega
+          (arith, p .4),
+      p .5,
+      p .7,
+    )
 
 size-requires : tie.Need-size-requires
 size-requires c κs = search needs
@@ -35,15 +68,31 @@ size-requires c κs = search needs
 change-requires : tie.Need-change-requires
 unfolding kinds-fine
 change-requires c κs =
-    let p = c .before .before .before .before .before .before .before .before .before .before .before .before .before .before .before .pre in
+    let p = c .before .before .before .before .before .before .before .before .before .before .before .before .before .before .before .pre
+    in
     let ready = p .6 in
     (ready .deep, ready .array, p .1 .2, omega (arith, below-top _ _ (ready .numbers), p .2))
 
 add-t27 : tie.Need-add-t27
 add-t27 c =
-    let p = c .before .before .before .before .before .before .before .before .before .before .before .before .before .before .before .before .before .before .pre in
+    let p = c .before .before .before .before .before .before .before .before .before .before .before .before .before .before .before
+    .before .before .before .pre in
     let ready = p .6 in
-    omega (arith, c .before .before .before .before .size .ensures, small-size (c .before .before .before .before .before .before .before .before .before .before .before .before .before .before .before .before .before .before .args .m) (c .before .before .before .before .before .before .before .before .before .before .before .before .before .before .before .before .before .before .args .prefix) (c .before .before .before .before .before .before .before .before .before .before .before .before .before .before .before .before .before .before .args .data), p .2, p .3, p .4, ready .small)
+    omega (
+      arith,
+      c .before .before .before .before .size .ensures,
+      small-size
+          (c .before .before .before .before .before .before .before .before .before .before .before .before .before .before .before .before
+          .before .before .args .m) (c .before .before .before .before .before .before .before .before .before .before .before .before
+          .before
+          .before .before .before .before .before .args .prefix)
+          (c .before .before .before .before .before .before .before .before .before .before .before .before .before .before .before .before
+          .before .before .args .data),
+      p .2,
+      p .3,
+      p .4,
+      ready .small,
+    )
 
 same-length : tie.Need-same-length
 same-length c = search needs
@@ -56,10 +105,39 @@ same-length-3 c = search needs
 
 returns-2 : tie.Need-returns-2
 returns-2 c =
-    let p = c .before .before .before .before .before .before .before .before .before .before .before .before .before .before .before .before .before .before .pre in
-    allowed-as (c .before .before .before .before .before .before .before .before .before .before .before .before .before .before .before .before .before .before .args .draft .now) (c .before .before .before .before .before .before .before .before .before .before .before .before .before .before .before .before .before .before .args .lead) (c .before .before .before .before .before .before .before .before .before .before .before .before .before .before .before .before .before .before .args .m) (c .before .before .before .before .before .before .before .before .before .before .before .before .before .before .before .before .before .before .args .place) (c .before .before .before .before .before .before .before .before .before .before .before .before .before .before .before .before .before .before .args .prefix) (c .before .before .before .before .before .before .before .before .before .before .before .before .before .before .before .before .before .before .args .from) (c .before .before .before .before .before .before .before .before .before .before .before .before .before .before .before .before .before .before .args .data) (c .before .before .before .before .before .before .before .before .before .before .before .before .before .before .before .before .before .before .pre .5) (c .before .before .before .before .before .before .before .before .before .before .before .before .before .before .before .before .before .before .args .s) (c .before .before .before .before .before .before .before .before .before .before .before .before .before .before .before .before .before .before .args .list .now) (c .before .before .before .before .before .before .before .before .before .before .before .before .before .before .before .before .before .before .args .text .now) (c .before .before .before .before .before .before .before .before .before .before .before .before .before .before .before .before .before .before .args .groups .now) (sym (c .before .before .before .before .before .before .before .before .before .before .before .before .before .shortage .ensures) ∙ c .before .before .before .before .before .before .before .before .before .before .before .before .if1 .left) (p .6) (p .3) (p .4)
-    (c .before .before .before .before .before .before .before .before .before .write .last .1 .0) (c .before .before .before .before .before .before .before .before .before .write .last .1 .1 .0) (c .before .before .change .last .0) (c .before .before .before .before .before .before .before .before .before .write .result) (c .before .before .before .before .size .result) (c .before .before .change .result)
-    (c .before .before .before .before .before .before .before .before .before .write .ensures .1) (c .before .before .before .before .before .before .before .before .before .write .ensures .2) (c .before .before .before .before .before .before .before .before .before .write .ensures .0) (c .before .before .before .before .size .ensures) (c .before .before .change .ensures .0) (c .before .before .change .ensures .1) (omega (arith, c .before .before .change .kept, p .6 .array))
+    let p = c .before .before .before .before .before .before .before .before .before .before .before .before .before .before .before
+    .before .before .before .pre in
+    allowed-as (c .before .before .before .before .before .before .before .before .before .before .before .before .before .before .before
+    .before .before .before .args .draft .now)
+    (c .before .before .before .before .before .before .before .before .before .before .before .before .before .before .before .before
+    .before .before .args .lead) (c .before .before .before .before .before .before .before .before .before .before .before .before
+    .before .before .before .before .before .before .args .m)
+    (c .before .before .before .before .before .before .before .before .before .before .before .before .before .before .before .before
+    .before .before .args .place) (c .before .before .before .before .before .before .before .before .before .before .before .before
+    .before .before .before .before .before .before .args .prefix)
+    (c .before .before .before .before .before .before .before .before .before .before .before .before .before .before .before .before
+    .before .before .args .from) (c .before .before .before .before .before .before .before .before .before .before .before .before
+    .before .before .before .before .before .before .args .data)
+    (c .before .before .before .before .before .before .before .before .before .before .before .before .before .before .before .before
+    .before .before .pre .5) (c .before .before .before .before .before .before .before .before .before .before .before .before .before
+    .before .before .before .before .before .args .s)
+    (c .before .before .before .before .before .before .before .before .before .before .before .before .before .before .before .before
+    .before .before .args .list .now)
+    (c .before .before .before .before .before .before .before .before .before .before .before .before .before .before .before .before
+    .before .before .args .text .now)
+    (c .before .before .before .before .before .before .before .before .before .before .before .before .before .before .before .before
+    .before .before .args .groups .now)
+    (sym (c .before .before .before .before .before .before .before .before .before .before .before .before .before .shortage .ensures)
+    ∙ c .before .before .before .before .before .before .before .before .before .before .before .before .if1 .left) (p .6) (p .3) (p .4)
+    (c .before .before .before .before .before .before .before .before .before .write .last .1 .0)
+    (c .before .before .before .before .before .before .before .before .before .write .last .1 .1 .0)
+    (c .before .before .change .last .0) (c .before .before .before .before .before .before .before .before .before .write .result)
+    (c .before .before .before .before .size .result) (c .before .before .change .result)
+    (c .before .before .before .before .before .before .before .before .before .write .ensures .1)
+    (c .before .before .before .before .before .before .before .before .before .write .ensures .2)
+    (c .before .before .before .before .before .before .before .before .before .write .ensures .0)
+    (c .before .before .before .before .size .ensures) (c .before .before .change .ensures .0) (c .before .before .change .ensures .1)
+    (omega (arith, c .before .before .change .kept, p .6 .array))
 
 pub settle-spec : {M : Type 1} → statement M
 settle-spec =

@@ -54,13 +54,30 @@ returns-2 c =
 bare-requires : tie.Need-bare-requires
 bare-requires c κs =
     let a = c .before .before .before .before .before .before .before .before .before .args in
-    let p = c .before .before .before .before .before .before .before .before .before .pre in
-    (p .0, omega (arith, bare-count (a .lead) (a .place), c .before .before .before .one .ensures, c .before .before .if1 .left, p .6 .held), omega arith, omega (arith, p .6 .small))
+    let p = c .before .before .before .before .before .before .before .before .before .pre in (
+      p .0,
+      omega (
+        arith,
+        bare-count (a .lead) (a .place),
+        c .before .before .before .one .ensures,
+        c .before .before .if1 .left,
+        p .6 .held,
+      ),
+      omega arith,
+      omega (arith, p .6 .small),
+    )
 
 mul-row : tie.Need-mul-row
 mul-row c =
     let a = c .before .before .before .before .before .before .before .before .before .before .before .before .before .args in
-    omega (arith, c .before .before .before .bare .ensures .0, bare-count (a .lead) (a .place), one-small (a .lead), c .before .before .before .before .before .before .before .before .before .before .before .before .before .pre .6 .held, c .before .before .before .bare .kept)
+    omega (
+      arith,
+      c .before .before .before .bare .ensures .0,
+      bare-count (a .lead) (a .place),
+      one-small (a .lead),
+      c .before .before .before .before .before .before .before .before .before .before .before .before .before .pre .6 .held,
+      c .before .before .before .bare .kept,
+    )
 
 cast-row : tie.Need-cast-row
 cast-row c = search needs
@@ -71,33 +88,66 @@ cast-row-2 c = search needs
 cast-row-3 : tie.Need-cast-row-3
 cast-row-3 c =
     let a = c .before .before .before .before .before .before .before .before .before .before .before .before .before .args in
-    omega (arith, c .before .before .before .before .before .before .before .before .cut-length .ensures, cut-fits (a .m .text) (a .length), c .before .before .before .before .before .before .before .before .before .before .before .before .before .pre .4)
+    omega (
+      arith,
+      c .before .before .before .before .before .before .before .before .cut-length .ensures,
+      cut-fits (a .m .text) (a .length),
+      c .before .before .before .before .before .before .before .before .before .before .before .before .before .pre .4,
+    )
 
 row-requires : tie.Need-row-requires
 row-requires c κs =
     let a = c .before .before .before .before .before .before .before .before .before .before .before .before .before .args in
     let p = c .before .before .before .before .before .before .before .before .before .before .before .before .before .pre in
-    omega (arith, c .before .before .before .bare .ensures .0, c .before .before .before .bare .kept, bare-count (a .lead) (a .place), c .before .before .before .before .before .before .before .one .ensures, c .before .before .before .before .before .before .if1 .left, p .6 .held)
+    omega (
+      arith,
+      c .before .before .before .bare .ensures .0,
+      c .before .before .before .bare .kept,
+      bare-count (a .lead) (a .place),
+      c .before .before .before .before .before .before .before .one .ensures,
+      c .before .before .before .before .before .before .if1 .left,
+      p .6 .held,
+    )
 
 as-it-stands-requires : tie.Need-as-it-stands-requires
 as-it-stands-requires c κs =
-    let a = c .before .before .before .before .before .before .before .before .before .before .before .before .before .before .before .before .before .args in
-    let p = c .before .before .before .before .before .before .before .before .before .before .before .before .before .before .before .before .before .pre in
+    let a = c .before .before .before .before .before .before .before .before .before .before .before .before .before .before .before
+    .before .before .args in
+    let p = c .before .before .before .before .before .before .before .before .before .before .before .before .before .before .before
+    .before .before .pre in
     let size = cutLength (a .m .text) (a .length) in
     let from = cutFrom (a .m .text) (a .place) in
     let raw = ap length (cut-raw (a .draft .now) (a .place) (a .length) 0 0 (p .5) (a .m .text)) in
     let long = cut-long (a .draft .now) (a .place) (a .length) 0 0 (p .5) (a .m .text) in (
       omega (arith, c .before .before .before .before .before .before .before .before .before .if2 .left, p .6 .used),
-      rw (c .before .before .before .before .before .before .before .before .before .before .before .before .cut-length .ensures, c .before .before .before .before .before .before .before .before .before .before .before .before .before .cut-from .ensures) (omega (arith, raw, long, length-take size (drop from (a .draft .now)))),
+      rw (
+        c .before .before .before .before .before .before .before .before .before .before .before .before .cut-length .ensures,
+        c .before .before .before .before .before .before .before .before .before .before .before .before .before .cut-from .ensures,
+      )
+          (omega (arith, raw, long, length-take size (drop from (a .draft .now)))),
     )
 
 add-t24 : tie.Need-add-t24
 add-t24 c =
-    let a = c .before .before .before .before .before .before .before .before .before .before .before .before .before .before .before .before .before .before .before .before .args in
-    omega (arith, c .before .before .before .before .before .before .before .before .before .before .before .before .before .before .before .before .before .before .before .before .pre .6 .held, c .before .before .before .before .before .before .before .before .before .before .bare .ensures .0, bare-count (a .lead) (a .place), one-small (a .lead))
+    let a = c .before .before .before .before .before .before .before .before .before .before .before .before .before .before .before
+    .before .before .before .before .before .args in
+    omega (
+      arith,
+      c .before .before .before .before .before .before .before .before .before .before .before .before .before .before .before
+          .before .before .before .before .before .pre .6 .held,
+      c .before .before .before .before .before .before .before .before .before .before .bare .ensures .0,
+      bare-count (a .lead)
+          (a .place),
+      one-small (a .lead),
+    )
 
 add-t21 : tie.Need-add-t21
-add-t21 c = omega (arith, c .before .before .before .before .before .before .before .before .before .before .before .before .before .before .before .before .before .before .before .before .pre .6 .used, c .before .before .before .before .before .before .before .before .before .before .before .before .if2 .left)
+add-t21 c = omega (
+  arith,
+  c .before .before .before .before .before .before .before .before .before .before .before .before .before .before
+      .before .before .before .before .before .before .pre .6 .used,
+  c .before .before .before .before .before .before .before .before .before .before .before .before .if2 .left,
+)
 
 same-length : tie.Need-same-length
 same-length c = search needs
@@ -108,17 +158,29 @@ same-length-2 c = search needs
 returns-3 : tie.Need-returns-3
 unfolding kinds-fine
 returns-3 c =
-    let a = c .before .before .before .before .before .before .before .before .before .before .before .before .before .before .before .before .before .before .before .before .args in
-    let p = c .before .before .before .before .before .before .before .before .before .before .before .before .before .before .before .before .before .before .before .before .pre in
-    let size = c .before .before .before .before .before .before .before .before .before .before .before .before .before .before .before .cut-length .ensures in
+    let a = c .before .before .before .before .before .before .before .before .before .before .before .before .before .before .before
+    .before .before .before .before .before .args in
+    let p = c .before .before .before .before .before .before .before .before .before .before .before .before .before .before .before
+    .before .before .before .before .before .pre in
+    let size = c .before .before .before .before .before .before .before .before .before .before .before .before .before .before .before
+    .cut-length .ensures in
     λ groups ready.
     rw size
     (held-one (a .draft .now) (a .lead) (a .m) (a .place) (a .length) (p .5) (a .s) (a .list .now) (a .text .now) groups (p .2) ready
-    (rw (← c .before .before .before .before .before .before .before .before .before .before .before .before .before .before .one .ensures) (c .before .before .before .before .before .before .before .before .before .before .before .before .before .if1 .left))
-    (rw (← size) (c .before .before .before .before .before .before .before .before .before .before .before .before .if2 .left)) (p .4) (p .1 .1) (c .before .before .before .before .before .before .before .before .before .before .bare .last .0) (c .before .before .before .before .before .before .row .last .0) (c .before .before .as-it-stands .last .1 .1 .1 .0) (c .before .before .before .before .before .before .before .before .before .before .bare .result)
-    (c .before .before .before .before .before .before .before .before .before .before .bare .ensures .0) (c .before .before .before .before .before .before .before .before .before .before .bare .ensures .1)
+    (rw (← c .before .before .before .before .before .before .before .before .before .before .before .before .before .before .one .ensures)
+    (c .before .before .before .before .before .before .before .before .before .before .before .before .before .if1 .left))
+    (rw (← size) (c .before .before .before .before .before .before .before .before .before .before .before .before .if2 .left)) (p .4)
+    (p .1 .1) (c .before .before .before .before .before .before .before .before .before .before .bare .last .0)
+    (c .before .before .before .before .before .before .row .last .0) (c .before .before .as-it-stands .last .1 .1 .1 .0)
+    (c .before .before .before .before .before .before .before .before .before .before .bare .result)
+    (c .before .before .before .before .before .before .before .before .before .before .bare .ensures .0)
+    (c .before .before .before .before .before .before .before .before .before .before .bare .ensures .1)
     (rw (← size) (c .before .before .before .before .before .before .row .ensures))
-    (rw (← size, ← c .before .before .before .before .before .before .before .before .before .before .before .before .before .before .before .before .cut-from .ensures) (c .before .before .as-it-stands .ensures)))
+    (rw (
+      ← size,
+      ← c .before .before .before .before .before .before .before .before .before .before .before .before .before .before .before
+          .before .cut-from .ensures,
+    ) (c .before .before .as-it-stands .ensures)))
 
 pub hold-spec : {M : Type 1} → statement M
 hold-spec =

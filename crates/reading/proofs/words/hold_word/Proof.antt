@@ -19,8 +19,17 @@ enum-known-v-2 c = search needs
 
 hold-requires : tie.Need-hold-requires
 hold-requires c κs =
-    let p = c .before .before .before .before .before .before .before .before .before .pre in
-    (p .0, rw (c .before .before .before .v2 .given .1) at (c .before .before .before .before .before .word .ensures .1 (c .before .before .before .before .before .before .before .before .before .args .s .depth)), rw (c .before .before .before .v2 .given .1) at (c .before .before .before .before .before .word .ensures .2), p .1, p .2, p .3, p .4)
+    let p = c .before .before .before .before .before .before .before .before .before .pre in (
+      p .0,
+      rw (c .before .before .before .v2 .given .1) at (c .before .before .before .before .before .word .ensures .1
+          (c .before .before .before .before .before .before .before .before .before .args .s .depth)),
+      rw
+          (c .before .before .before .v2 .given .1) at (c .before .before .before .before .before .word .ensures .2),
+      p .1,
+      p .2,
+      p .3,
+      p .4,
+    )
 
 returns : tie.Need-returns
 unfolding agrees fitted meaning
@@ -28,7 +37,8 @@ returns c =
     let a = c .before .before .before .before .before .before .before .args in
     let T = clean (a .length) (streamAt (a .draft .now) (a .place)) in
     λ e groups ready.
-    rw (sym (c .before .before .before .word .ensures .0 (a .place) T (openGroups groups (a .s .depth)) e), c .before .v .given .1) (refl, refl, refl)
+    rw (sym (c .before .before .before .word .ensures .0 (a .place) T (openGroups groups (a .s .depth)) e), c .before .v .given .1)
+    (refl, refl, refl)
 
 same-length : tie.Need-same-length
 same-length c = search needs
@@ -41,7 +51,12 @@ returns-2 c =
     let a = c .before .before .before .before .before .before .before .before .before .before .before .before .before .before .args in
     let T = clean (a .length) (streamAt (a .draft .now) (a .place)) in
     λ e groups ready.
-    rw (sym (c .before .before .before .before .before .before .before .before .before .before .word .ensures .0 (a .place) T (openGroups groups (a .s .depth)) e), c .before .before .before .before .before .before .before .before .v2 .given .1) (c .before .before .before .before .hold .ensures groups ready)
+    rw (
+      sym (c .before .before .before .before .before .before .before .before .before .before .word .ensures .0 (a .place) T
+          (openGroups groups (a .s .depth)) e),
+      c .before .before .before .before .before .before .before .before .v2 .given .1,
+    )
+    (c .before .before .before .before .hold .ensures groups ready)
 
 pub hold-word-spec : {M : Type 1} → statement M
 hold-word-spec =

@@ -1,4 +1,5 @@
--- `reading::words::take_word` meets its contract: 17 for the group comes first, and then the word is held with the group open. Assumes nothing.
+-- `reading::words::take_word` meets its contract: 17 for the group comes first, and then the word is held with the group open. Assumes
+-- nothing.
 use mathlib.Core.Path.{sym, _∙_}
 use native.Mathlib.Omega.{arith}
 use borrow.Author.Needs.{needs}
@@ -15,11 +16,15 @@ returns c =
     let a = c .before .before .before .before .before .before .args in
     let T = clean (a .length) (streamAt (a .draft .now) (a .place)) in
     λ e regularly.
-    too-many (a .s) (a .list .now) (a .text .now) (a .groups .now) (a .place) T regularly (sym (c .before .crowded .ensures) ∙ c .if1 .taken) (a .groups .now)
+    too-many (a .s) (a .list .now) (a .text .now) (a .groups .now) (a .place) T regularly (sym (c .before .crowded .ensures)
+    ∙ c .if1 .taken) (a .groups .now)
 
 enter-requires : tie.Need-enter-requires
-enter-requires c κs =
-    (not-crowded (c .before .before .before .before .before .before .before .args .s) (sym (c .before .before .crowded .ensures) ∙ c .before .if1 .left), c .before .before .before .before .before .before .before .pre .3 .array)
+enter-requires c κs = (
+  not-crowded (c .before .before .before .before .before .before .before .args .s) (sym (c .before .before .crowded .ensures)
+      ∙ c .before .if1 .left),
+  c .before .before .before .before .before .before .before .pre .3 .array,
+)
 
 brings-requires : tie.Need-brings-requires
 brings-requires c κs = search needs
@@ -32,7 +37,8 @@ hold-word-requires c κs =
       p .0,
       p .1,
       p .2,
-      rw (c .before .before .before .before .before .enter .ensures .0) (spare-entered (a .s) (a .list .now) (a .text .now) (a .groups .now) (a .place) (p .3)),
+      rw (c .before .before .before .before .before .enter .ensures .0) (spare-entered (a .s) (a .list .now) (a .text .now) (a .groups .now)
+          (a .place) (p .3)),
     )
 
 same-length : tie.Need-same-length
@@ -46,19 +52,25 @@ same-length-3 c = search needs
 
 returns-2 : tie.Need-returns-2
 returns-2 c =
-    let a = c .before .before .before .before .before .before .before .before .before .before .before .before .before .before .before .before .before .before .args in
-    let p = c .before .before .before .before .before .before .before .before .before .before .before .before .before .before .before .before .before .before .pre in
+    let a = c .before .before .before .before .before .before .before .before .before .before .before .before .before .before .before
+    .before .before .before .args in
+    let p = c .before .before .before .before .before .before .before .before .before .before .before .before .before .before .before
+    .before .before .before .pre in
     let T = clean (a .length) (streamAt (a .draft .now) (a .place)) in
-    let shallow = not-crowded (a .s) (sym (c .before .before .before .before .before .before .before .before .before .before .before .before .before .crowded .ensures) ∙ c .before .before .before .before .before .before .before .before .before .before .before .before .if1 .left) in
+    let shallow = not-crowded (a .s)
+    (sym (c .before .before .before .before .before .before .before .before .before .before .before .before .before .crowded .ensures)
+    ∙ c .before .before .before .before .before .before .before .before .before .before .before .before .if1 .left) in
     let pushed = c .before .before .before .before .before .before .before .before .before .before .enter .last .0 in
     let inner = c .before .before .before .before .before .before .before .before .before .before .enter .ensures .0 in
     let so = rw inner at (c .before .before .before .before .before .before .before .before .before .before .enter .ensures .1) in
     λ e regularly.
-    entered (a .s) (a .list .now) (a .text .now) (a .groups .now) (a .place) T regularly shallow pushed so (c .before .before .before .before .hold-word .result)
+    entered (a .s) (a .list .now) (a .text .now) (a .groups .now) (a .place) T regularly shallow pushed so
+    (c .before .before .before .before .hold-word .result)
     (c .before .before .before .before .hold-word .last .1 .0) (c .before .before .before .before .hold-word .last .1 .1 .0)
     (rw (inner, c .before .before .before .before .before .before .before .brings .ensures) at
     (c .before .before .before .before .hold-word .ensures e pushed
-    (rw inner (ready-entered (a .s) (a .list .now) (a .text .now) (a .groups .now) (a .place) (p .3) shallow pushed (omega (arith, c .before .before .before .before .before .before .before .before .before .before .enter .kept, p .3 .array)) so))))
+    (rw inner (ready-entered (a .s) (a .list .now) (a .text .now) (a .groups .now) (a .place) (p .3) shallow pushed
+    (omega (arith, c .before .before .before .before .before .before .before .before .before .before .enter .kept, p .3 .array)) so))))
 
 pub take-word-spec : {M : Type 1} → statement M
 take-word-spec =

@@ -1,5 +1,5 @@
--- `tokens::all_data` meets its contract. Of a byte below 80 hex: with 60 added it has the highest bit from 20 on; what differs from a quote by
--- some bit has it with 7F added, and so for a backslash; and FA less the byte has it up to 7A. Assumes nothing.
+-- `tokens::all_data` meets its contract. Of a byte below 80 hex: with 60 added it has the highest bit from 20 on; what differs from a quote
+-- by some bit has it with 7F added, and so for a backslash; and FA less the byte has it up to 7A. Assumes nothing.
 use mathlib.Core.Path.{_≡_, refl}
 use mathlib.Core.Bool.{true, false≢true}
 use Prim.Native.Nat.{ℕ, _+_, _^_, _<_}

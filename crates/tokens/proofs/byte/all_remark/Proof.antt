@@ -1,5 +1,5 @@
--- `tokens::all_remark` meets its contract: a byte below 80 hex to which 60 is added is below 100, and it has the highest bit from 20 on. Assumes
--- nothing.
+-- `tokens::all_remark` meets its contract: a byte below 80 hex to which 60 is added is below 100, and it has the highest bit from 20 on.
+-- Assumes nothing.
 use mathlib.Core.Path.{refl}
 use mathlib.Core.Bool.{false≢true}
 use Prim.Native.Nat.{ℕ}

@@ -1,5 +1,5 @@
--- `tokens::class` meets its contract: antt computes the definition at every byte of each range that the code tells by its ends, and finds class 4.
--- SP is computed alone, and `rare` ensures the rest. Assumes nothing.
+-- `tokens::class` meets its contract: antt computes the definition at every byte of each range that the code tells by its ends, and finds
+-- class 4. SP is computed alone, and `rare` ensures the rest. Assumes nothing.
 use mathlib.Core.Path.{_≡_, refl, sym, ap}
 use mathlib.Core.Bool.{true, _&&_}
 use Prim.Native.Nat.{ℕ, _<_}

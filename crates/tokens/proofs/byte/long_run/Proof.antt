@@ -1,5 +1,5 @@
--- `tokens::long_run` meets its contract. The invariant: the place at which the definition ends the run from here is the one at which it ended it
--- from the start; `past_blocks` leaves it so. Assumes nothing.
+-- `tokens::long_run` meets its contract. The invariant: the place at which the definition ends the run from here is the one at which it
+-- ended it from the start; `past_blocks` leaves it so. Assumes nothing.
 use mathlib.Core.Path.{_≡_, refl, sym, _∙_}
 use Prim.Native.Nat.{_+_, _-_, _≤_}
 use native.Mathlib.Omega.{arith}
@@ -14,7 +14,8 @@ use Rattle.tokens.proofs.byte.long_run.Statement.{statement}
 use Rattle.tokens.proofs.byte.long_run.Tie as tie
 
 abbrev Inv-loop : tie.InvT-loop
-Inv-loop draft at end low high i₀ i = (i + run low high (end - i) (drop i draft) ≡ at + run low high (end - at) (drop at draft)) × (i ≤ end) × (end ≤ length draft)
+Inv-loop draft at end low high i₀ i = (i + run low high (end - i) (drop i draft) ≡ at + run low high (end - at) (drop at draft)) × (i ≤ end)
+    × (end ≤ length draft)
 
 abbrev μ-loop : tie.MeasureT-loop
 μ-loop draft at end low high i₀ i = end - i
@@ -36,7 +37,8 @@ returns c =
     let a = c .before .before .before .before .before .before .before .args in
     let l = c .before .before .before .before .loop in
     let t = within (a .low) (a .high) (classOf (getD (a .draft .now) (l .i) 0)) in
-    halted (a .low) (a .high) (a .draft .now) (l .i) (a .end) (omega arith) (not-true t (sym (c .before .outside .ensures) ∙ c .if1 .taken)) ∙ l .inv .0
+    halted (a .low) (a .high) (a .draft .now) (l .i) (a .end) (omega arith) (not-true t (sym (c .before .outside .ensures) ∙ c .if1 .taken))
+    ∙ l .inv .0
 
 add-i : tie.Need-add-i Inv-loop μ-loop
 add-i c = omega arith
@@ -49,8 +51,13 @@ loop-again c =
     let a = c .before .before .before .before .before .before .before .args in
     let l = c .before .before .before .before .loop in
     let n = classOf (getD (a .draft .now) (l .i) 0) in
-    let r = within-true (a .low) (a .high) n (not-false (within (a .low) (a .high) n) (sym (c .before .outside .ensures) ∙ c .if1 .left)) in
-    (onward (a .low) (a .high) (a .draft .now) (l .i) (a .end) (omega arith) (omega arith) (r .0) (r .1) ∙ l .inv .0, omega arith, l .inv .2)
+    let r = within-true (a .low) (a .high) n (not-false (within (a .low) (a .high) n) (sym (c .before .outside .ensures) ∙ c .if1 .left))
+    in (
+      onward (a .low) (a .high) (a .draft .now) (l .i) (a .end) (omega arith) (omega arith) (r .0) (r .1)
+          ∙ l .inv .0,
+      omega arith,
+      l .inv .2,
+    )
 
 returns-2 : tie.Need-returns-2 Inv-loop μ-loop
 returns-2 c =

@@ -1,5 +1,5 @@
--- `tokens::rare` meets its contract: an arm lists the bytes of its class, or the even ones or the odd ones of them, and what no arm lists has
--- class 0. Assumes nothing.
+-- `tokens::rare` meets its contract: an arm lists the bytes of its class, or the even ones or the odd ones of them, and what no arm lists
+-- has class 0. Assumes nothing.
 use mathlib.Core.Path.{_≡_, refl, ap}
 use mathlib.Core.Bool.{Bool, true, not, _&&_}
 use mathlib.Core.List.{List, [], _∷_}
@@ -35,7 +35,8 @@ in-class s v b h = eqb-true v (classOf b) (both (s b) (eqb v (classOf b)) (in-ar
 -- the arms, the last one first
 arms : List (ℕ → Bool)
 arms =
-    of every 9 ∷ of every 8 ∷ of odd 7 ∷ of even 7 ∷ of every 6 ∷ of odd 5 ∷ of even 5 ∷ of odd 4 ∷ of even 4 ∷ of every 3 ∷ of every 2 ∷ of every 1 ∷ []
+    of every 9 ∷ of every 8 ∷ of odd 7 ∷ of even 7 ∷ of every 6 ∷ of odd 5 ∷ of even 5 ∷ of odd 4 ∷ of even 4 ∷ of every 3 ∷ of every 2 ∷ of
+    every 1 ∷ []
 
 rest : tie.Need-returns-13
 unfolding arms classOf visible white atomic exclusive inclusive legal

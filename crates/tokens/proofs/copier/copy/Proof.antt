@@ -8,7 +8,8 @@ use borrow.Author.Needs.{needs}
 use Rattle.chars.proofs.Extent.{encoded-size}
 use Rattle.tokens.proofs.Passing.{class-at}
 use Rattle.tokens.proofs.Skipping.{none-behind, scalar}
-use Rattle.tokens.proofs.Copying.{Copying, begun, advance-byte, advance-coded, finished, clean-zero, clean-full, clean-none, too-small}
+use Rattle.tokens.proofs.Copying.{Copying, begun, advance-byte, advance-coded, finished, clean-zero, clean-full, clean-none}
+use Rattle.tokens.proofs.Copying.{too-small}
 use Rattle.tokens.proofs.copier.copy.Statement.{statement}
 use Rattle.tokens.proofs.copier.copy.Tie as tie
 
@@ -31,7 +32,8 @@ returns-2 : tie.Need-returns-2 Inv-loop μ-loop
 returns-2 c =
     let a = c .before .before .before .before .before .before .args in
     let l = c .before .before .loop in
-    finished (a .draft .now) (a .from) (a .n) (a .out .now) (l .out) (l .i) (l .k) (l .inv) (clean-none (a .draft .now) (l .i) (a .n - l .k) (none-behind (a .draft .now) (l .i) (c .if2 .taken)))
+    finished (a .draft .now) (a .from) (a .n) (a .out .now) (l .out) (l .i) (l .k) (l .inv) (clean-none (a .draft .now) (l .i) (a .n - l .k)
+    (none-behind (a .draft .now) (l .i) (c .if2 .taken)))
 
 shared-slice-read-b : tie.Need-shared-slice-read-b Inv-loop μ-loop
 shared-slice-read-b c = omega arith
@@ -90,43 +92,69 @@ same-length-3 c = c .before .before .before .before .before .before .before .bef
 
 returns-4 : tie.Need-returns-4 Inv-loop μ-loop
 returns-4 c =
-    let a = c .before .before .before .before .before .before .before .before .before .before .before .before .before .before .before .args in
+    let a = c .before .before .before .before .before .before .before .before .before .before .before .before .before .before .before .args
+    in
     let l = c .before .before .before .before .before .before .before .before .before .before .before .loop in
     let g = c .before .before .before .number .given in
     let is = sym (c .before .before .before .before .before .character-at .ensures) ∙ g .1 in
-    finished (a .draft .now) (a .from) (a .n) (a .out .now) (l .out) (l .i) (l .k) (l .inv) (clean-full (a .draft .now) (l .i) (a .n - l .k) (g .0 .0) (g .0 .1 .0) is (omega (arith, c .before .encoded-length .ensures)))
+    finished (a .draft .now) (a .from) (a .n) (a .out .now) (l .out) (l .i) (l .k) (l .inv) (clean-full (a .draft .now) (l .i) (a .n - l .k)
+    (g .0 .0) (g .0 .1 .0) is (omega (arith, c .before .encoded-length .ensures)))
 
 encode-requires : tie.Need-encode-requires Inv-loop μ-loop
 encode-requires c κs =
-    let a = c .before .before .before .before .before .before .before .before .before .before .before .before .before .before .before .args in
+    let a = c .before .before .before .before .before .before .before .before .before .before .before .before .before .before .before .args
+    in
     let g = c .before .before .before .number .given in
     let is = sym (c .before .before .before .before .before .character-at .ensures) ∙ g .1 in
-    scalar (a .draft .now) (c .before .before .before .before .before .before .before .before .before .before .before .loop .i) (g .0 .0) (g .0 .1 .0) is
+    scalar (a .draft .now) (c .before .before .before .before .before .before .before .before .before .before .before .loop .i) (g .0 .0)
+    (g .0 .1 .0) is
 
 put-requires : tie.Need-put-requires Inv-loop μ-loop
 put-requires c κs =
     let l = c .before .before .before .before .before .before .before .before .before .before .before .before .before .before .loop in
-    let many = encoded-size (c .before .before .before .before .before .before .number .given .0 .0) in
-    (omega (arith, c .before .before .before .before .encoded-length .ensures, many .1), omega (arith, l .inv .within, l .inv .long, l .inv .fits, c .before .before .before .if4 .left))
+    let many = encoded-size (c .before .before .before .before .before .before .number .given .0 .0) in (
+      omega (arith, c .before .before .before .before .encoded-length .ensures, many .1),
+      omega (
+        arith,
+        l .inv .within,
+        l .inv .long,
+        l .inv .fits,
+        c .before .before .before .if4 .left,
+      ),
+    )
 
 add-k-2 : tie.Need-add-k-2 Inv-loop μ-loop
-add-k-2 c = let l = c .before .before .before .before .before .before .before .before .before .before .before .before .before .before .before .before .before .loop in omega (arith, l .inv .within, c .before .before .before .before .before .before .if4 .left)
+add-k-2 c = let l = c .before .before .before .before .before .before .before .before .before .before .before .before .before .before
+    .before .before .before .loop in omega (arith, l .inv .within, c .before .before .before .before .before .before .if4 .left)
 
 loop-less-2 : tie.Need-loop-less-2 Inv-loop μ-loop
 loop-less-2 c =
-    let l = c .before .before .before .before .before .before .before .before .before .before .before .before .before .before .before .before .before .loop in
+    let l = c .before .before .before .before .before .before .before .before .before .before .before .before .before .before .before
+    .before .before .loop in
     let many = encoded-size (c .before .before .before .before .before .before .before .before .before .number .given .0 .0) in
-    omega (arith, l .inv .within, c .before .before .before .before .before .before .if4 .left, c .before .before .before .before .before .before .before .encoded-length .ensures, many .0)
+    omega (
+      arith,
+      l .inv .within,
+      c .before .before .before .before .before .before .if4 .left,
+      c .before .before .before .before .before .before .before .encoded-length .ensures,
+      many .0,
+    )
 
 loop-again-2 : tie.Need-loop-again-2 Inv-loop μ-loop
 loop-again-2 c =
-    let a = c .before .before .before .before .before .before .before .before .before .before .before .before .before .before .before .before .before .before .before .before .before .args in
-    let l = c .before .before .before .before .before .before .before .before .before .before .before .before .before .before .before .before .before .loop in
+    let a = c .before .before .before .before .before .before .before .before .before .before .before .before .before .before .before
+    .before .before .before .before .before .before .args in
+    let l = c .before .before .before .before .before .before .before .before .before .before .before .before .before .before .before
+    .before .before .loop in
     let g = c .before .before .before .before .before .before .before .before .before .number .given in
-    let is = sym (c .before .before .before .before .before .before .before .before .before .before .before .character-at .ensures) ∙ g .1 in
+    let is = sym (c .before .before .before .before .before .before .before .before .before .before .before .character-at .ensures)
+    ∙ g .1 in
     rw (c .before .before .put .ensures)
-    (advance-coded (a .draft .now) (a .from) (a .n) (a .out .now) (l .out) (l .i) (l .k) (g .0 .0) (g .0 .1 .0) (c .before .before .before .before .before .before .before .encoded-length .result) (c .before .before .before .before .before .encode .result .bytes)
-    (l .inv) is (c .before .before .before .before .before .before .before .encoded-length .ensures) (c .before .before .before .before .before .before .if4 .left) (c .before .before .before .before .before .encode .ensures .0))
+    (advance-coded (a .draft .now) (a .from) (a .n) (a .out .now) (l .out) (l .i) (l .k) (g .0 .0) (g .0 .1 .0)
+    (c .before .before .before .before .before .before .before .encoded-length .result)
+    (c .before .before .before .before .before .encode .result .bytes)
+    (l .inv) is (c .before .before .before .before .before .before .before .encoded-length .ensures)
+    (c .before .before .before .before .before .before .if4 .left) (c .before .before .before .before .before .encode .ensures .0))
 
 same-length-4 : tie.Need-same-length-4 Inv-loop μ-loop
 same-length-4 c = c .before .loop .inv .long

@@ -1,4 +1,5 @@
--- `tokens::put` meets its contract. The invariant: the part is the one lent, with as many bytes pasted in as turns were made. Assumes nothing.
+-- `tokens::put` meets its contract. The invariant: the part is the one lent, with as many bytes pasted in as turns were made. Assumes
+-- nothing.
 use mathlib.Core.Path.{_≡_, sym, _∙_, ap}
 use Prim.Native.Nat.{_-_, _≤_}
 use native.Mathlib.Omega.{arith}

@@ -32,7 +32,8 @@ returns-3 : tie.Need-returns-3
 unfolding utf8-4
 returns-3 c =
     let last = sym (c .before .before .before .within2 .ensures) ∙ not-false _ (c .before .before .if2 .left) in
-    let third = sym (c .before .before .before .before .before .within .ensures) ∙ not-false _ (c .before .before .before .before .if1 .left) in
+    let third = sym (c .before .before .before .before .before .within .ensures)
+    ∙ not-false _ (c .before .before .before .before .if1 .left) in
     simp (c .before .if3 .taken, third, last, and-true, or-false) (c .within3 .ensures)
 
 within-requires-4 : tie.Need-within-requires-4
@@ -42,7 +43,8 @@ returns-4 : tie.Need-returns-4
 unfolding utf8-4
 returns-4 c =
     let last = sym (c .before .before .before .before .within2 .ensures) ∙ not-false _ (c .before .before .before .if2 .left) in
-    let third = sym (c .before .before .before .before .before .before .within .ensures) ∙ not-false _ (c .before .before .before .before .before .if1 .left) in
+    let third = sym (c .before .before .before .before .before .before .within .ensures)
+    ∙ not-false _ (c .before .before .before .before .before .if1 .left) in
     simp (c .before .if4 .taken, third, last, and-true) (c .within4 .ensures)
 
 returns-5 : tie.Need-returns-5
@@ -58,8 +60,10 @@ returns-6 : tie.Need-returns-6
 unfolding utf8-4
 returns-6 c =
     let b = c .before .before .before .before .before .before .before .before .args .b in
-    let last = sym (c .before .before .before .before .before .within2 .ensures) ∙ not-false _ (c .before .before .before .before .if2 .left) in
-    let third = sym (c .before .before .before .before .before .before .before .within .ensures) ∙ not-false _ (c .before .before .before .before .before .before .if1 .left) in
+    let last = sym (c .before .before .before .before .before .within2 .ensures)
+    ∙ not-false _ (c .before .before .before .before .if2 .left) in
+    let third = sym (c .before .before .before .before .before .before .before .within .ensures)
+    ∙ not-false _ (c .before .before .before .before .before .before .if1 .left) in
     simp (
       third,
       last,

@@ -1,5 +1,5 @@
--- `tokens::sequence::three` meets its contract: UTF8-3 has an alternative for each range of the first byte, and the last byte is the same in
--- all. Assumes nothing.
+-- `tokens::sequence::three` meets its contract: UTF8-3 has an alternative for each range of the first byte, and the last byte is the same
+-- in all. Assumes nothing.
 use mathlib.Core.Path.{_≡_, sym, _∙_}
 use mathlib.Core.Bool.{and-true, and-false, or-false}
 use native.Mathlib.Omega.{arith}

@@ -1,5 +1,5 @@
--- `tokens::sequence::wide` meets its contract: the bytes that `two`, `three` or `four` take are the first of the draft's bytes from the place
--- on. Assumes nothing.
+-- `tokens::sequence::wide` meets its contract: the bytes that `two`, `three` or `four` take are the first of the draft's bytes from the
+-- place on. Assumes nothing.
 use mathlib.Core.Path.{_≡_, sym, _∙_}
 use mathlib.Core.Bool.{or-true}
 use native.Mathlib.Omega.{arith}
