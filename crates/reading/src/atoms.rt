@@ -9,6 +9,7 @@ ghost use Rattle.reading.specs.Making.{fitted};
 ghost use Rattle.reading.specs.Judging.{bares, meaning, kinds-fine, textless};
 ghost use Rattle.reading.specs.Stepping.{Ready, Steady, openGroups, readerOf, roomLeft, agrees, judgedAs};
 ghost use Rattle.reading.specs.Rounds.{isAtom};
+use crate::entities::one;
 use crate::groups::change;
 use crate::groups::top;
 use crate::judge::Made;
@@ -21,7 +22,6 @@ use crate::rows::bare;
 use crate::rows::row;
 use crate::step::State;
 use crate::step::Step;
-use crate::step::one;
 
 // Most bytes that are none lie above `,`.
 pub fn is_atom(b: u8) -> bool

@@ -7,6 +7,7 @@ ghost use Rattle.reading.specs.Stepping.{pieceOf};
 ghost use Rattle.reading.specs.Reading.{reading as readingOf};
 
 mod atoms;
+mod entities;
 mod groups;
 mod judge;
 mod round;

@@ -12,6 +12,9 @@ ghost use Rattle.chars.specs.Stream.{streamAt, clean};
 ghost use Rattle.reading.specs.Making.{fitted, handled, adds, word as wordOf};
 ghost use Rattle.reading.specs.Judging.{bares, meaning, kinds-fine, single};
 ghost use Rattle.reading.specs.Stepping.{Contents, Ready, Spare, openGroups, roomLeft, readerOf, agrees, enteredBy};
+use crate::entities::cut_from;
+use crate::entities::cut_length;
+use crate::entities::one;
 use crate::groups::push;
 use crate::judge::Made;
 use crate::judge::Verdict;
@@ -21,9 +24,6 @@ use crate::rows::bare;
 use crate::rows::row;
 use crate::step::State;
 use crate::step::Step;
-use crate::step::cut_from;
-use crate::step::cut_length;
-use crate::step::one;
 use chars::limits;
 
 // A token that its rules allow: 18 or 19 where its entity does not fit behind an inserted begin group (`lead` is 6, or 0 for none), else
