@@ -1,5 +1,5 @@
--- `reading::entities::write` meets its contract: two entities with nothing in them and then the last, each behind what stands there already.
--- Assumes nothing.
+-- `reading::entities::write` meets its contract: two entities with nothing in them and then the last, each behind what stands there
+-- already. Assumes nothing.
 use mathlib.Core.Path.{_≡_, sym, _∙_, ap}
 use mathlib.Core.List.{[], _∷_, _++_}
 use native.Mathlib.Omega.{arith}

@@ -1,5 +1,5 @@
--- `tokens::space::blanks` meets its contract. The invariant: a run of blanks has ended here, and what the definition finds behind it is what it
--- finds behind the start. CR with LF behind it is one more blank. Assumes nothing.
+-- `tokens::space::blanks` meets its contract. The invariant: a run of blanks has ended here, and what the definition finds behind it is
+-- what it finds behind the start. CR with LF behind it is one more blank. Assumes nothing.
 use mathlib.Core.Path.{_≡_, sym, _∙_}
 use mathlib.Core.Logic.{⊎-elim}
 use Prim.Native.Nat.{_-_}

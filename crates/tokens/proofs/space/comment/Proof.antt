@@ -1,5 +1,5 @@
--- `tokens::space::comment` meets its contract. The invariant: a run of the comment's bytes has ended here, and what the definition finds behind
--- the comment is what it finds from the start. LF ends it, and so does what is no character. Assumes nothing.
+-- `tokens::space::comment` meets its contract. The invariant: a run of the comment's bytes has ended here, and what the definition finds
+-- behind the comment is what it finds from the start. LF ends it, and so does what is no character. Assumes nothing.
 use mathlib.Core.Path.{_≡_, sym, _∙_}
 use mathlib.Core.Logic.{⊎-elim}
 use Prim.Native.Nat.{_+_, _-_}

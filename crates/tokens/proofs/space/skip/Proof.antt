@@ -1,5 +1,5 @@
--- `tokens::space::skip` meets its contract. The invariant: blanks have ended here, and what the definition finds behind whitespace and comments is
--- what it finds from the start. Assumes nothing.
+-- `tokens::space::skip` meets its contract. The invariant: blanks have ended here, and what the definition finds behind whitespace and
+-- comments is what it finds from the start. Assumes nothing.
 use mathlib.Core.Path.{_≡_, sym, _∙_, ap}
 use mathlib.Core.Bool.{false}
 use Prim.Native.Nat.{_-_, _≤_}

@@ -1,5 +1,5 @@
--- `tokens::string_data::string` meets its contract. The invariant: what the definition answers from here is what it answered at the start of the data.
--- Assumes nothing.
+-- `tokens::string_data::string` meets its contract. The invariant: what the definition answers from here is what it answered at the start
+-- of the data. Assumes nothing.
 use mathlib.Core.Path.{_≡_, refl, sym, _∙_, ap}
 use mathlib.Core.Bool.{false}
 use mathlib.Core.Logic.{⊎-elim}
