@@ -37,8 +37,10 @@ returns-3 c = let n = c .before .before .before .number .given .0 .0 in rw
 
 returns-4 : tie.Need-returns-4
 unfolding judged
-returns-4 c = let n = c .before .before .before .before .number .given .0 .0 in rw
-    (← c .before .before .before .before .before .before .sequence-at .ensures, c .before .before .before .before .number .given .1)
+returns-4 c =
+    let after-number = c .before .before .before .before .number in
+    let n = after-number .given .0 .0 in
+    rw (← c .before .before .before .before .before .before .sequence-at .ensures, after-number .given .1)
     (simp (le-leb 0xD800 n (omega arith), lt-leb n 0xDBFF (omega arith), le-leb 0xDC00 n (omega arith), le-leb n 0xDFFF (omega arith)))
 
 sequence-at-requires-2 : tie.Need-sequence-at-requires-2

@@ -5,8 +5,9 @@ use Rattle.reading.proofs.read.Statement.{statement}
 use Rattle.reading.proofs.read.Tie as tie
 
 returns : tie.Need-returns
-returns c = too-long (c .before .before .before .before .args .draft .now) (c .before .before .before .before .args .list .now)
-    (c .before .before .before .before .args .text .now) (c .if1 .taken)
+returns c =
+    let a = c .before .before .before .before .args in
+    too-long (a .draft .now) (a .list .now) (a .text .now) (c .if1 .taken)
 
 slice-aggregate-view : tie.Need-slice-aggregate-view
 slice-aggregate-view c = search needs

@@ -23,11 +23,9 @@ start-requires c κs = search needs
 
 loop-holds : tie.Need-loop-holds Inv-loop μ-loop
 loop-holds c =
-    let a = c .before .before .before .before .before .args in (
-      rw (c .start .ensures) (at-first (a .draft .now) (a .list .now) (a .text .now) (a .groups .now)
-          (c .before .before .before .before .before .pre .0) (c .before .before .before .before .before .pre .1)),
-      c .before .before .before .before .before .pre .0,
-    )
+    let p = c .before .before .before .before .before .pre in
+    let a = c .before .before .before .before .before .args in
+    (rw (c .start .ensures) (at-first (a .draft .now) (a .list .now) (a .text .now) (a .groups .now) (p .0) (p .1)), p .0)
 
 go-round-requires : tie.Need-go-round-requires Inv-loop μ-loop
 go-round-requires c κs =
@@ -58,15 +56,13 @@ same-length-3 c =
 
 returns : tie.Need-returns Inv-loop μ-loop
 returns c =
+    let after-go-round = c .before .before .before .before .before .before .before .before .before .before .go-round in
     let a = c .before .before .before .before .before .before .before .before .before .before .before .before .before .before .before
     .before .before .before .before .before .args in
     let l = c .before .before .before .before .before .before .before .before .before .before .before .before .before .before .loop in
-    let e = c .before .before .before .before .before .before .before .before .before .before .go-round .last in
-    let held =
-    finished (a .draft .now) (a .list .now) (a .text .now) (l .list) (l .text) (l .groups) (l .s) (l .at) (l .inv .0) _ (e .1 .0)
-    (e .1 .1 .0)
-    (e .1 .1 .1 .0) _ _ _ (rw (c .before .before .r .given .1) at
-    (c .before .before .before .before .before .before .before .before .before .before .go-round .ensures)) in
+    let e = after-go-round .last in
+    let held = finished (a .draft .now) (a .list .now) (a .text .now) (l .list) (l .text) (l .groups) (l .s) (l .at) (l .inv .0) _ (e .1 .0)
+    (e .1 .1 .0) (e .1 .1 .1 .0) _ _ _ (rw (c .before .before .r .given .1) at (after-go-round .ensures)) in
     (c .told .ensures ∙ held .0, (held .1, held .2))
 
 enum-known-r-2 : tie.Need-enum-known-r-2 Inv-loop μ-loop
@@ -82,17 +78,14 @@ loop-less c =
 loop-again : tie.Need-loop-again Inv-loop μ-loop
 unfolding goesRound
 loop-again c =
+    let after-go-round = c .before .before .before .before .before .before .before .before .before .go-round in
     let a = c .before .before .before .before .before .before .before .before .before .before .before .before .before .before .before
     .before .before .before .before .args in
     let l = c .before .before .before .before .before .before .before .before .before .before .before .before .before .loop in
-    let e = c .before .before .before .before .before .before .before .before .before .go-round .last in
-    let went = rw (c .before .r2 .given .1) at
-    (c .before .before .before .before .before .before .before .before .before .go-round .ensures) in (
+    let e = after-go-round .last in
+    let went = rw (c .before .r2 .given .1) at (after-go-round .ensures) in (
       further (a .draft .now) (a .list .now) (a .text .now) (l .list) (l .text) (l .groups) (l .s) (l .at) (l .inv .0) _ (e .1 .0)
-          (e .1 .1 .0) _
-          (went .0) (e .1 .1 .1 .0) _ (omega
-          (arith, c .before .before .before .before .before .before .before .before .before .go-round .kept))
-          (omega (arith, c .before .before .before .before .before .before .before .before .before .go-round .kept)) (went .1),
+          (e .1 .1 .0) _ (went .0) (e .1 .1 .1 .0) _ (omega (arith, after-go-round .kept)) (omega (arith, after-go-round .kept)) (went .1),
       l .inv .1,
     )
 

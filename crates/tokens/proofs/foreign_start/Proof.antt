@@ -36,12 +36,12 @@ returns c =
 returns-2 : tie.Need-returns-2
 unfolding white
 returns-2 c =
+    let p = c .before .before .before .before .pre in
     let a = c .before .before .before .before .args in
     let g = c .enum-told .given in
     let is = sym (c .before .before .character-at .ensures) ∙ g .1 in
-    let no = neither limits (a .draft .now) (a .i) (c .before .before .before .before .pre .2) (g .0 .0) (g .0 .1 .0) is in
-    let high = foreign-number (a .draft .now) (a .i) (g .0 .0) (g .0 .1 .0) (c .before .before .before .before .pre .1) is
-    (λ line. false≢true (sym (no .0) ∙ ap white line)) in
+    let no = neither limits (a .draft .now) (a .i) (p .2) (g .0 .0) (g .0 .1 .0) is in
+    let high = foreign-number (a .draft .now) (a .i) (g .0 .0) (g .0 .1 .0) (p .1) is (λ line. false≢true (sym (no .0) ∙ ap white line)) in
     sym (illegal limits (a .draft .now) (a .i) (g .0 .0) (g .0 .1 .0) is (no .0) (no .1) (foreign (g .0 .0) high .no-visible))
 
 pub foreign-start-spec : {M : Type 1} → statement M

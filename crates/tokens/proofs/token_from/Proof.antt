@@ -34,25 +34,27 @@ opened-requires c κs = search needs
 
 returns-2 : tie.Need-returns-2
 returns-2 c =
+    let p = c .before .before .before .before .before .before .pre in
     let a = c .before .before .before .before .before .before .args in
     let i = a .i in
     let b = getD (a .draft .now) i 0 in
     let k = c .before .before .before .class .ensures in
     let own : 1 ≤ classOf b = omega arith in
-    let is = alone-at (a .draft .now) i (c .before .before .before .before .before .before .pre .0) own in
-    let no = neither limits (a .draft .now) i (c .before .before .before .before .before .before .pre .1) b (i + 1) is in
+    let is = alone-at (a .draft .now) i (p .0) own in
+    let no = neither limits (a .draft .now) i (p .1) b (i + 1) is in
     let o = opening b (omega arith) in
     c .opened .ensures ∙ sym (opened limits (a .draft .now) i b (i + 1) is (no .0) (no .1) (o .is-visible) (o .is-inclusive))
 
 returns-3 : tie.Need-returns-3
 returns-3 c =
+    let p = c .before .before .before .before .before .before .pre in
     let a = c .before .before .before .before .before .before .args in
     let i = a .i in
     let b = getD (a .draft .now) i 0 in
     let k = c .before .before .before .class .ensures in
     let own : 1 ≤ classOf b = omega arith in
-    let is = alone-at (a .draft .now) i (c .before .before .before .before .before .before .pre .0) own in
-    let no = neither limits (a .draft .now) i (c .before .before .before .before .before .before .pre .1) b (i + 1) is in
+    let is = alone-at (a .draft .now) i (p .0) own in
+    let no = neither limits (a .draft .now) i (p .1) b (i + 1) is in
     sym (illegal limits (a .draft .now) i b (i + 1) is (no .0) (no .1) (illegal-byte b (omega arith) .no-visible))
 
 bar-requires : tie.Need-bar-requires
@@ -112,14 +114,14 @@ add-t9 c = search needs
 
 returns-7 : tie.Need-returns-7
 returns-7 c =
+    let p = c .before .before .before .before .before .before .before .before .before .pre in
     let a = c .before .before .before .before .before .before .before .before .before .args in
     let i = a .i in
     let b = getD (a .draft .now) i 0 in
     let k = c .before .before .before .before .before .before .class .ensures in
     let own : 1 ≤ classOf b = omega arith in
-    let is = alone-at (a .draft .now) i (c .before .before .before .before .before .before .before .before .before .pre .0) own in
-    let no = neither limits (a .draft .now) i (c .before .before .before .before .before .before .before .before .before .pre .1) b
-    (i + 1) is in
+    let is = alone-at (a .draft .now) i (p .0) own in
+    let no = neither limits (a .draft .now) i (p .1) b (i + 1) is in
     let t = atomic-left b own (λ e. omega arith) (λ e. omega arith) (λ e. omega arith) (λ e. omega arith) (no .0) (no .1) in
     sym (alone limits (a .draft .now) i b (i + 1) is (no .0) (no .1) (t .is-visible) (t .no-inclusive) (t .is-atomic))
 

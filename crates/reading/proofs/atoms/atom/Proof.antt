@@ -11,12 +11,9 @@ group-begins-requires : tie.Need-group-begins-requires
 group-begins-requires c κs = search needs
 
 settled-requires : tie.Need-settled-requires
-settled-requires c κs = (
-  c .before .before .group-begins .ensures .1,
-  c .before .before .group-begins .ensures .2,
-  c .before .before .before .before .before .before .pre .3,
-  c .before .before .before .before .before .before .pre .4,
-)
+settled-requires c κs =
+    let p = c .before .before .before .before .before .before .pre in
+    (c .before .before .group-begins .ensures .1, c .before .before .group-begins .ensures .2, p .3, p .4)
 
 same-length : tie.Need-same-length
 same-length c = search needs
@@ -46,12 +43,9 @@ group-ends-requires : tie.Need-group-ends-requires
 group-ends-requires c κs = search needs
 
 settled-requires-2 : tie.Need-settled-requires-2
-settled-requires-2 c κs = (
-  c .before .before .group-ends .ensures .1,
-  c .before .before .group-ends .ensures .2,
-  c .before .before .before .before .before .before .before .before .before .pre .3,
-  c .before .before .before .before .before .before .before .before .before .pre .4,
-)
+settled-requires-2 c κs =
+    let p = c .before .before .before .before .before .before .before .before .before .pre in
+    (c .before .before .group-ends .ensures .1, c .before .before .group-ends .ensures .2, p .3, p .4)
 
 same-length-3 : tie.Need-same-length-3
 same-length-3 c = search needs
@@ -78,12 +72,9 @@ element-ends-requires : tie.Need-element-ends-requires
 element-ends-requires c κs = search needs
 
 settled-requires-3 : tie.Need-settled-requires-3
-settled-requires-3 c κs = (
-  c .before .before .element-ends .ensures .1 _,
-  c .before .before .element-ends .ensures .2,
-  c .before .before .before .before .before .before .before .before .before .before .pre .3,
-  c .before .before .before .before .before .before .before .before .before .before .pre .4,
-)
+settled-requires-3 c κs =
+    let p = c .before .before .before .before .before .before .before .before .before .before .pre in
+    (c .before .before .element-ends .ensures .1 _, c .before .before .element-ends .ensures .2, p .3, p .4)
 
 same-length-5 : tie.Need-same-length-5
 same-length-5 c = search needs
@@ -112,12 +103,9 @@ array-ends-requires : tie.Need-array-ends-requires
 array-ends-requires c κs = search needs
 
 settled-requires-4 : tie.Need-settled-requires-4
-settled-requires-4 c κs = (
-  c .before .before .array-ends .ensures .1 _,
-  c .before .before .array-ends .ensures .2,
-  c .before .before .before .before .before .before .before .before .before .before .pre .3,
-  c .before .before .before .before .before .before .before .before .before .before .pre .4,
-)
+settled-requires-4 c κs =
+    let p = c .before .before .before .before .before .before .before .before .before .before .pre in
+    (c .before .before .array-ends .ensures .1 _, c .before .before .array-ends .ensures .2, p .3, p .4)
 
 same-length-7 : tie.Need-same-length-7
 same-length-7 c = search needs

@@ -25,12 +25,11 @@ mul-if1-2 c = omega (arith, c .one .ensures, one-small (c .before .before .befor
 
 returns : tie.Need-returns
 returns c =
+    let p = c .before .before .before .before .pre in
     let a = c .before .before .before .before .args in
     let few = c .if1 .taken in
-    λ T text ready.
-    bare-stops (a .m) (a .place) (a .s) (a .list .now) text (a .groups .now) T (c .before .before .before .before .pre .1) ready
-    (a .groups .now)
-    (omega (arith, c .before .one .ensures, c .before .before .before .before .pre .3 .held))
+    λ T text ready. bare-stops (a .m) (a .place) (a .s) (a .list .now) text (a .groups .now) T (p .1) ready (a .groups .now)
+    (omega (arith, c .before .one .ensures, p .3 .held))
 
 bare-requires : tie.Need-bare-requires
 unfolding kinds-fine
@@ -64,11 +63,12 @@ cast-row-2 c = search needs
 
 row-requires : tie.Need-row-requires
 row-requires c κs =
+    let after-bare = c .before .before .before .bare in
     let a = c .before .before .before .before .before .before .before .before .before .args in
     omega (
       arith,
-      c .before .before .before .bare .ensures .0,
-      c .before .before .before .bare .kept,
+      after-bare .ensures .0,
+      after-bare .kept,
       bare-count (a .m .first) (a .place),
       c .before .before .before .before .before .before .one .ensures,
       c .before .before .before .before .before .if1 .left,
@@ -106,27 +106,22 @@ same-length-2 c = search needs
 returns-2 : tie.Need-returns-2
 unfolding kinds-fine
 returns-2 c =
+    let after-bare = c .before .before .before .before .before .before .before .before .before .before .bare in
+    let after-row = c .before .before .before .before .before .before .row in
     let a = c .before .before .before .before .before .before .before .before .before .before .before .before .before .before .before
     .before .args in
     let p = c .before .before .before .before .before .before .before .before .before .before .before .before .before .before .before
     .before .pre in
-    λ T text ready.
-    bare-goes (a .m) (a .place) (a .s) (a .list .now) text (a .groups .now) T (p .1) ready
+    λ T text ready. bare-goes (a .m) (a .place) (a .s) (a .list .now) text (a .groups .now) T (p .1) ready
     (omega (
       arith,
-      c .before .before .before .before .before .before .before .before .before .before .before .before .before .one .ensures,
+      c .before .before .before .before .before .before .before .before .before .before .before .before .before .one
+          .ensures,
       c .before .before .before .before .before .before .before .before .before .before .before .before .if1 .left,
       p .3 .held,
-    ))
-    (c .before .before .before .before .before .before .row .last .0) (c .before .before .change .last .0)
-    (c .before .before .before .before .before .before .before .before .before .before .bare .result)
-    (c .before .before .change .result) (p .0 .1)
-    (c .before .before .before .before .before .before .before .before .before .before .bare .last .0)
-    (c .before .before .before .before .before .before .before .before .before .before .bare .ensures .0)
-    (c .before .before .before .before .before .before .before .before .before .before .bare .ensures .1)
-    (c .before .before .before .before .before .before .row .ensures) (c .before .before .change .ensures .0)
-    (c .before .before .change .ensures .1)
-    (omega (arith, c .before .before .change .kept, p .3 .array))
+    )) (after-row .last .0) (c .before .before .change .last .0) (after-bare .result) (c .before .before .change .result) (p .0 .1)
+    (after-bare .last .0) (after-bare .ensures .0) (after-bare .ensures .1) (after-row .ensures) (c .before .before .change .ensures .0)
+    (c .before .before .change .ensures .1) (omega (arith, c .before .before .change .kept, p .3 .array))
 
 pub settle-spec : {M : Type 1} → statement M
 settle-spec =

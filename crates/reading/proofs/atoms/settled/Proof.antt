@@ -15,8 +15,9 @@ enum-known-v-2 c = search needs
 
 settle-requires : tie.Need-settle-requires
 settle-requires c κs =
+    let after-v2 = c .before .before .before .v2 in
     let p = c .before .before .before .before .before .before .before .pre in
-    (rw (c .before .before .before .v2 .given .1) at (p .0), rw (c .before .before .before .v2 .given .1) at (p .1), p .2, p .3)
+    (rw (after-v2 .given .1) at (p .0), rw (after-v2 .given .1) at (p .1), p .2, p .3)
 
 returns : tie.Need-returns
 unfolding agrees fitted meaning

@@ -18,35 +18,38 @@ one-requires-3 : tie.Need-one-requires-3
 one-requires-3 c κs = search needs
 
 add-if1 : tie.Need-add-if1
-add-if1 c = omega (
-  arith,
-  c .before .before .one .ensures,
-  c .before .one2 .ensures,
-  c .one3 .ensures,
-  one-small
-      (c .before .before .before .args .lead),
-  one-small (c .before .before .before .args .m .first),
-  one-small
-      (c .before .before .before .args .m .last),
-)
+add-if1 c =
+    let a = c .before .before .before .args in
+    omega (
+      arith,
+      c .before .before .one .ensures,
+      c .before .one2 .ensures,
+      c .one3 .ensures,
+      one-small (a .lead),
+      one-small
+          (a .m .first),
+      one-small (a .m .last),
+    )
 
 add-if1-2 : tie.Need-add-if1-2
-add-if1-2 c = omega (
-  arith,
-  c .before .before .one .ensures,
-  c .before .one2 .ensures,
-  c .one3 .ensures,
-  one-small
-      (c .before .before .before .args .lead),
-  one-small (c .before .before .before .args .m .first),
-  one-small
-      (c .before .before .before .args .m .last),
-)
+add-if1-2 c =
+    let a = c .before .before .before .args in
+    omega (
+      arith,
+      c .before .before .one .ensures,
+      c .before .one2 .ensures,
+      c .one3 .ensures,
+      one-small (a .lead),
+      one-small
+          (a .m .first),
+      one-small (a .m .last),
+    )
 
 returns : tie.Need-returns
 unfolding shortOf madeCount
-returns c = rw (lt-ltb (c .before .before .before .before .args .entities) (one (c .before .before .before .before .args .lead) + one
-    (c .before .before .before .before .args .m .first) + one (c .before .before .before .before .args .m .last))
+returns c =
+    let a = c .before .before .before .before .args in
+    rw (lt-ltb (a .entities) (one (a .lead) + one (a .m .first) + one (a .m .last))
     (omega (arith, c .if1 .taken, c .before .before .before .one .ensures, c .before .before .one2 .ensures, c .before .one3 .ensures)))
 
 size-requires : tie.Need-size-requires
@@ -54,43 +57,37 @@ size-requires c κs = search needs
 
 returns-2 : tie.Need-returns-2
 unfolding shortOf madeCount
-returns-2 c = rw (
-  le-ltb (c .before .before .before .before .before .before .args .entities)
-      (one (c .before .before .before .before .before .before .args .lead) + one
-      (c .before .before .before .before .before .before .args .m .first) + one
-      (c .before .before .before .before .before .before .args .m .last))
-      (omega (
-        arith,
-        c .before .before .if1 .left,
-        c .before .before .before .before .before .one .ensures,
-        c .before .before .before .before .one2 .ensures,
-        c .before .before .before .one3 .ensures,
-      )),
-  lt-ltb
-      (c .before .before .before .before .before .before .args .text) (madeSize (c .before .before .before .before .before .before .args .m)
-      (c .before .before .before .before .before .before .args .prefix) (c .before .before .before .before .before .before .args .data))
-      (omega (arith, c .if2 .taken, c .before .size .ensures)),
-)
+returns-2 c =
+    let a = c .before .before .before .before .before .before .args in
+    rw (
+      le-ltb (a .entities) (one (a .lead) + one (a .m .first) + one (a .m .last))
+          (omega (
+            arith,
+            c .before .before .if1 .left,
+            c .before .before .before .before .before .one .ensures,
+            c .before .before .before .before .one2 .ensures,
+            c .before .before .before .one3 .ensures,
+          )),
+      lt-ltb (a .text)
+          (madeSize (a .m) (a .prefix) (a .data)) (omega (arith, c .if2 .taken, c .before .size .ensures)),
+    )
 
 returns-3 : tie.Need-returns-3
 unfolding shortOf madeCount
-returns-3 c = rw (
-  le-ltb (c .before .before .before .before .before .before .args .entities)
-      (one (c .before .before .before .before .before .before .args .lead) + one
-      (c .before .before .before .before .before .before .args .m .first) + one
-      (c .before .before .before .before .before .before .args .m .last))
-      (omega (
-        arith,
-        c .before .before .if1 .left,
-        c .before .before .before .before .before .one .ensures,
-        c .before .before .before .before .one2 .ensures,
-        c .before .before .before .one3 .ensures,
-      )),
-  le-ltb
-      (c .before .before .before .before .before .before .args .text) (madeSize (c .before .before .before .before .before .before .args .m)
-      (c .before .before .before .before .before .before .args .prefix) (c .before .before .before .before .before .before .args .data))
-      (omega (arith, c .if2 .left, c .before .size .ensures)),
-)
+returns-3 c =
+    let a = c .before .before .before .before .before .before .args in
+    rw (
+      le-ltb (a .entities) (one (a .lead) + one (a .m .first) + one (a .m .last))
+          (omega (
+            arith,
+            c .before .before .if1 .left,
+            c .before .before .before .before .before .one .ensures,
+            c .before .before .before .before .one2 .ensures,
+            c .before .before .before .one3 .ensures,
+          )),
+      le-ltb (a .text)
+          (madeSize (a .m) (a .prefix) (a .data)) (omega (arith, c .if2 .left, c .before .size .ensures)),
+    )
 
 pub shortage-spec : {M : Type 1} → statement M
 shortage-spec =

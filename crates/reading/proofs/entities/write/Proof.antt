@@ -23,17 +23,20 @@ bare-requires c κs =
 
 bare-requires-2 : tie.Need-bare-requires-2
 bare-requires-2 c κs =
+    let after-bare = c .before .before .before .bare in
     let a = c .before .before .before .before .before .before .before .before .args in
     let p = c .before .before .before .before .before .before .before .before .pre in
     let many = so-many (a .draft .now) (a .lead) (a .m) (a .place) (a .prefix) (a .from) (a .data) in
     let much = so-much (a .draft .now) (a .lead) (a .m) (a .place) (a .prefix) (a .from) (a .data) in
-    (p .1, omega (arith, c .before .before .before .bare .ensures .0, c .before .before .before .bare .kept), p .5, p .6)
+    (p .1, omega (arith, after-bare .ensures .0, after-bare .kept), p .5, p .6)
 
 same-length : tie.Need-same-length
 same-length c = search needs
 
 returns : tie.Need-returns
 returns c =
+    let after-bare = c .before .before .before .before .before .before .before .bare in
+    let after-bare2 = c .before .before .before .bare2 in
     let a = c .before .before .before .before .before .before .before .before .before .before .before .before .args in
     let p = c .before .before .before .before .before .before .before .before .before .before .before .before .pre in
     let B1 = bares (a .lead) (a .place) in
@@ -43,20 +46,12 @@ returns c =
     let none = no-last (a .m) (a .place) _ _ (c .if1 .taken) in
     let all = parts (a .draft .now) (a .lead) (a .m) (a .place) (a .prefix) (a .from) (a .data) ∙ ap (λ l. B1 ++ (B2 ++ l)) none in
     let list2 = one-after-another (a .draft .now) (a .lead) (a .m) (a .place) (a .prefix) (a .from) (a .data) (a .list .now) (a .held)
-    (a .used) []
-    (omega arith) in (
-      omega (
-        arith,
-        c .before .before .before .before .before .before .before .bare .ensures .0,
-        c .before .before .before .bare2 .ensures .0,
-        ap length none,
-      ),
-      c .before .before .before .bare2 .ensures .1 ∙ (rw (
-        c .before .before .before .before .before .before .before .bare .ensures .1,
-        c .before .before .before .before .before .before .before .bare .ensures .0,
-        all,
-      ) (sym (written-none _ _ _) ∙ list2)),
-      sym (ap (textWritten (a .text .now) (a .used)) all ∙ (bare-text (a .text .now) (a .used) (a .lead) (a .place) (B2 ++ [])
+    (a .used) [] (omega arith) in (
+      omega (arith, after-bare .ensures .0, after-bare2 .ensures .0, ap length none),
+      after-bare2 .ensures .1
+          ∙ (rw (after-bare .ensures .1, after-bare .ensures .0, all) (sym (written-none _ _ _) ∙ list2)),
+      sym
+          (ap (textWritten (a .text .now) (a .used)) all ∙ (bare-text (a .text .now) (a .used) (a .lead) (a .place) (B2 ++ [])
           ∙ (bare-text (a .text .now) (a .used) (a .m .first) (a .place) [] ∙ text-none (a .text .now) (a .used)))),
     )
 
@@ -68,6 +63,9 @@ cut-length-requires c κs = search needs
 
 full-requires : tie.Need-full-requires
 full-requires c κs =
+    let after-bare = c .before .before .before .before .before .before .before .before .before .before .before .bare in
+    let after-bare2 = c .before .before .before .before .before .before .before .bare2 in
+    let after-cut-from = c .before .before .before .cut-from in
     let a = c .before .before .before .before .before .before .before .before .before .before .before .before .before .before .before
     .before .args in
     let p = c .before .before .before .before .before .before .before .before .before .before .before .before .before .before .before
@@ -81,23 +79,17 @@ full-requires c κs =
     let is-length = c .before .before .cut-length .ensures in (
       omega (arith, none),
       p .2,
-      omega (
-        arith,
-        c .before .before .before .before .before .before .before .before .before .before .before .bare .ensures .0,
-        c .before .before .before .before .before .before .before .bare2 .ensures .0,
-        c .before .before .before .before .before .before .before .before .before .before .before .bare .kept,
-        c .before .before .before .before .before .before .before .bare2 .kept,
-      ),
+      omega (arith, after-bare .ensures .0, after-bare2 .ensures .0, after-bare .kept, after-bare2 .kept),
       omega (arith, is-length),
       p .5,
       p .6,
       omega (arith, is-length),
       p .8,
-      rw (is-length, c .before .before .before .cut-from .ensures) (cut-long (a .draft .now) (a .place) (a .prefix) (a .from) (a .data)
-          (p .9) (a .m .text)),
+      rw (is-length, after-cut-from .ensures)
+          (cut-long (a .draft .now) (a .place) (a .prefix) (a .from) (a .data) (p .9) (a .m .text)),
       p .9 .string-long,
-      λ h. rw (is-length, c .before .before .before .cut-from .ensures) (cut-raw (a .draft .now) (a .place) (a .prefix) (a .from) (a .data)
-          (p .9) (a .m .text)),
+      λ h. rw
+          (is-length, after-cut-from .ensures) (cut-raw (a .draft .now) (a .place) (a .prefix) (a .from) (a .data) (p .9) (a .m .text)),
       p .10,
     )
 
@@ -128,6 +120,12 @@ same-length-3 c = search needs
 
 returns-2 : tie.Need-returns-2
 returns-2 c =
+    let after-bare = c .before .before .before .before .before .before .before .before .before .before .before .before .before .before
+    .before .before .bare in
+    let after-bare2 = c .before .before .before .before .before .before .before .before .before .before .before .before .bare2 in
+    let after-cut-from = c .before .before .before .before .before .before .before .before .cut-from in
+    let after-cut-length = c .before .before .before .before .before .before .before .cut-length in
+    let after-full = c .before .before .before .before .full in
     let a = c .before .before .before .before .before .before .before .before .before .before .before .before .before .before .before
     .before .before .before .before .before .before .args in
     let p = c .before .before .before .before .before .before .before .before .before .before .before .before .before .before .before
@@ -142,35 +140,21 @@ returns-2 c =
     let many = so-many (a .draft .now) (a .lead) (a .m) (a .place) (a .prefix) (a .from) (a .data) in
     let all = parts (a .draft .now) (a .lead) (a .m) (a .place) (a .prefix) (a .from) (a .data) ∙ ap (λ l. B1 ++ (B2 ++ l)) last in
     let list3 = one-after-another (a .draft .now) (a .lead) (a .m) (a .place) (a .prefix) (a .from) (a .data) (a .list .now) (a .held)
-    (a .used) (e ∷ [])
-    (omega arith) in (
-      omega (
-        arith,
-        c .before .before .before .before .before .before .before .before .before .before .before .before .before .before
-            .before .before .bare .ensures .0,
-        c .before .before .before .before .before .before .before .before .before .before .before .before .bare2 .ensures .0,
-      ),
-      c .before .before .before .before .full .ensures .0
+    (a .used) (e ∷ []) (omega arith) in (
+      omega (arith, after-bare .ensures .0, after-bare2 .ensures .0),
+      after-full .ensures .0
           ∙ (rw (
-            c .before .before .before .before .before .before .before .cut-length .ensures,
-            c .before .before .before .before .before .before .before .before .cut-from .ensures,
-            c .before .before .before .before .before .before .before .before .before .before .before .before .bare2 .ensures .1,
-            c .before .before .before .before .before .before .before .before .before .before .before .before .bare2 .ensures .0,
-            c .before .before .before .before .before .before .before .before .before .before .before .before .before .before .before
-                .before
-                .bare .ensures .1,
-            c .before .before .before .before .before .before .before .before .before .before .before .before .before
-                .before .before .before .bare .ensures .0,
+            after-cut-length .ensures,
+            after-cut-from .ensures,
+            after-bare2 .ensures .1,
+            after-bare2 .ensures .0,
+            after-bare .ensures .1,
+            after-bare .ensures .0,
             all,
           ) list3),
-      c .before .before .before .before .full .ensures .1
-          ∙ (rw (
-            c .before .before .before .before .before .before .before .cut-length .ensures,
-            c .before .before .before .before .before .before .before .before .cut-from .ensures,
-            all,
-          )
-          (sym (bare-text (a .text .now) (a .used) (a .lead) (a .place) (B2 ++ e ∷ []) ∙ bare-text (a .text .now) (a .used) (a .m .first)
-          (a .place) (e ∷ [])))),
+      after-full .ensures .1
+          ∙ (rw (after-cut-length .ensures, after-cut-from .ensures, all) (sym (bare-text (a .text .now) (a .used) (a .lead) (a .place)
+          (B2 ++ e ∷ []) ∙ bare-text (a .text .now) (a .used) (a .m .first) (a .place) (e ∷ [])))),
     )
 
 pub write-spec : {M : Type 1} → statement M

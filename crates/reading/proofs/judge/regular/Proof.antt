@@ -85,7 +85,8 @@ element-ends-requires c κs = search needs
 returns-6 : tie.Need-returns-6
 unfolding meaning madeEntities bares lasts cut groupsAfter kindOf kinds-fine bare within-groups judges judged regular group-begins
 returns-6 c =
-    let b = c .before .before .before .before .before .before .before .args .c in (
+    let a = c .before .before .before .before .before .before .before .args in
+    let b = a .c in (
       λ place text groups e d t. rw (
         e,
         ne-eqb b 37 (c .before .before .before .before .before .before .if1 .left),
@@ -98,8 +99,7 @@ returns-6 c =
         eq-eqb b 44 (c .before .if6 .taken),
       )
           (c .element-ends .ensures .0 place text groups t),
-      c .element-ends .ensures .1
-          (c .before .before .before .before .before .before .before .args .depth),
+      c .element-ends .ensures .1 (a .depth),
     )
 
 array-ends-requires : tie.Need-array-ends-requires
@@ -108,7 +108,8 @@ array-ends-requires c κs = search needs
 returns-7 : tie.Need-returns-7
 unfolding meaning madeEntities bares lasts cut groupsAfter kindOf kinds-fine bare within-groups judges judged regular group-begins
 returns-7 c =
-    let b = c .before .before .before .before .before .before .before .before .args .c in (
+    let a = c .before .before .before .before .before .before .before .before .args in
+    let b = a .c in (
       λ place text groups e d t. rw (
         e,
         ne-eqb b 37 (c .before .before .before .before .before .before .before .if1 .left),
@@ -121,7 +122,7 @@ returns-7 c =
             (c .before .before .if6 .left),
         eq-eqb b 93 (c .before .if7 .taken),
       ) (c .array-ends .ensures .0 place text groups t),
-      c .array-ends .ensures .1 (c .before .before .before .before .before .before .before .before .args .depth),
+      c .array-ends .ensures .1 (a .depth),
     )
 
 word-requires : tie.Need-word-requires
@@ -130,7 +131,8 @@ word-requires c κs = search needs
 returns-8 : tie.Need-returns-8
 unfolding meaning madeEntities bares lasts cut groupsAfter kindOf kinds-fine bare within-groups judges judged regular group-begins
 returns-8 c =
-    let b = c .before .before .before .before .before .before .before .before .args .c in (
+    let a = c .before .before .before .before .before .before .before .before .args in
+    let b = a .c in (
       λ place text groups e d t. rw (
         e,
         ne-eqb b 37 (c .before .before .before .before .before .before .before .if1 .left),
@@ -144,7 +146,7 @@ returns-8 c =
         ne-eqb b 93 (c .before .if7 .left),
       ) (c .word .ensures .0 place text groups e),
       c .word .ensures .1
-          (c .before .before .before .before .before .before .before .before .args .depth),
+          (a .depth),
     )
 
 pub regular-spec : {M : Type 1} → statement M

@@ -21,17 +21,17 @@ returns c =
 
 take-requires : tie.Need-take-requires
 take-requires c κs =
+    let p = c .before .before .before .before .before .before .before .before .before .before .pre in
+    let after-apart = c .before .before .before .before .apart in
     let a = c .before .before .before .before .before .before .before .before .before .before .args in
-    let k = here (a .draft .now) (a .list .now) (a .text .now) (a .groups .now) (a .s) (a .at)
-    (c .before .before .before .before .apart .result) (c .before .before .before .before .apart .ensures
+    let k = here (a .draft .now) (a .list .now) (a .text .now) (a .groups .now) (a .s) (a .at) (after-apart .result) (after-apart .ensures
     ∙ ap pieceOf (c .before .before .before .before .before .token-at .ensures)) (c .before .before .before .if1 .left) in (
       k .sorts,
-      omega (arith, k .on, k .there, c .before .before .before .before .before .before .before .before .before .before .pre .0),
+      omega (arith, k .on, k .there, p .0),
       k .short,
       k .brief,
       k .contents,
-      later _ _ _ _ _ _ (k .behind)
-          (c .before .before .before .before .before .before .before .before .before .before .pre .1),
+      later _ _ _ _ _ _ (k .behind) (p .1),
       k .opened,
       k .as-is,
     )
@@ -50,21 +50,16 @@ same-length-3 c = search needs
 
 returns-2 : tie.Need-returns-2
 returns-2 c =
+    let after-apart = c .before .before .before .before .before .before .before .before .before .before .before .before .before .apart in
+    let after-take = c .before .before .before .before .before .before .before .before .take in
     let a = c .before .before .before .before .before .before .before .before .before .before .before .before .before .before .before
     .before .before .before .before .args in
-    rw (c .ended .ensures)
-    (ended-here (a .draft .now) (a .list .now) (a .text .now) (a .groups .now) (a .s) (a .at)
-    (c .before .before .before .before .before .before .before .before .before .before .before .before .before .apart .result)
-    (c .before .before .before .before .before .before .before .before .before .before .before .before .before .apart .ensures
-    ∙ ap pieceOf (c .before .before .before .before .before .before .before .before .before .before .before .before .before .before
-    .token-at .ensures)) (c .before .before .before .before .before .before .before .before .before .before .before .before .if1 .left)
-    (c .before .before .before .before .before .before .before .before .take .last .1 .0)
-    (c .before .before .before .before .before .before .before .before .take .last .1 .1 .0)
-    (c .before .before .before .before .before .before .before .before .take .last .1 .1 .1 .0)
-    (c .before .before .before .before .before .before .before .before .take .result)
-    (c .before .before .before .before .before .before .before .before .take .ensures)
-    (omega (arith, c .before .before .before .before .before .before .before .before .take .kept))
-    (omega (arith, c .before .before .before .before .before .before .before .before .take .kept)) (c .before .if2 .taken))
+    rw (c .ended .ensures) (ended-here (a .draft .now) (a .list .now) (a .text .now) (a .groups .now) (a .s) (a .at) (after-apart .result)
+    (after-apart .ensures ∙ ap pieceOf
+    (c .before .before .before .before .before .before .before .before .before .before .before .before .before .before .token-at
+    .ensures)) (c .before .before .before .before .before .before .before .before .before .before .before .before .if1 .left)
+    (after-take .last .1 .0) (after-take .last .1 .1 .0) (after-take .last .1 .1 .1 .0) (after-take .result) (after-take .ensures)
+    (omega (arith, after-take .kept)) (omega (arith, after-take .kept)) (c .before .if2 .taken))
 
 behind-requires : tie.Need-behind-requires
 behind-requires c κs = search needs
@@ -80,21 +75,16 @@ same-length-6 c = search needs
 
 returns-3 : tie.Need-returns-3
 returns-3 c =
+    let after-apart = c .before .before .before .before .before .before .before .before .before .before .before .before .before .apart in
+    let after-take = c .before .before .before .before .before .before .before .before .take in
     let a = c .before .before .before .before .before .before .before .before .before .before .before .before .before .before .before
     .before .before .before .before .args in
-    rw (c .behind .ensures)
-    (behind-here (a .draft .now) (a .list .now) (a .text .now) (a .groups .now) (a .s) (a .at)
-    (c .before .before .before .before .before .before .before .before .before .before .before .before .before .apart .result)
-    (c .before .before .before .before .before .before .before .before .before .before .before .before .before .apart .ensures
-    ∙ ap pieceOf (c .before .before .before .before .before .before .before .before .before .before .before .before .before .before
-    .token-at .ensures)) (c .before .before .before .before .before .before .before .before .before .before .before .before .if1 .left)
-    (c .before .before .before .before .before .before .before .before .take .last .1 .0)
-    (c .before .before .before .before .before .before .before .before .take .last .1 .1 .0)
-    (c .before .before .before .before .before .before .before .before .take .last .1 .1 .1 .0)
-    (c .before .before .before .before .before .before .before .before .take .result)
-    (c .before .before .before .before .before .before .before .before .take .ensures)
-    (omega (arith, c .before .before .before .before .before .before .before .before .take .kept))
-    (omega (arith, c .before .before .before .before .before .before .before .before .take .kept)) (c .before .if2 .left))
+    rw (c .behind .ensures) (behind-here (a .draft .now) (a .list .now) (a .text .now) (a .groups .now) (a .s) (a .at) (after-apart .result)
+    (after-apart .ensures ∙ ap pieceOf
+    (c .before .before .before .before .before .before .before .before .before .before .before .before .before .before .token-at
+    .ensures)) (c .before .before .before .before .before .before .before .before .before .before .before .before .if1 .left)
+    (after-take .last .1 .0) (after-take .last .1 .1 .0) (after-take .last .1 .1 .1 .0) (after-take .result) (after-take .ensures)
+    (omega (arith, after-take .kept)) (omega (arith, after-take .kept)) (c .before .if2 .left))
 
 pub any-spec : {M : Type 1} → statement M
 any-spec =

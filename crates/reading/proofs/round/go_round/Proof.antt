@@ -59,6 +59,7 @@ same-length-2 c = search needs
 
 returns-2 : tie.Need-returns-2
 returns-2 c =
+    let after-atom = c .before .before .before .before .before .atom in
     let a = c .before .before .before .before .before .before .before .before .before .before .before .before .before .before .before
     .before .before .before .before .before .args in
     let ready = c .before .before .before .before .before .before .before .before .before .before .before .before .before .before .before
@@ -66,16 +67,12 @@ returns-2 c =
     let flags = both (not (a .s .metacommand)) (not (a .s .opened))
     (sym (c .before .before .before .before .before .before .before .before .before .before .before .regular .ensures)
     ∙ c .before .before .before .before .before .before .before .before .before .before .if3 .taken) in
-    rw (c .behind .ensures)
-    (atom-on (a .draft .now) (a .list .now) (a .text .now) (a .groups .now) (a .s) (a .at)
+    rw (c .behind .ensures) (atom-on (a .draft .now) (a .list .now) (a .text .now) (a .groups .now) (a .s) (a .at)
     (c .before .before .before .before .before .before .before .before .before .before .before .before .before .before .before .if1
-    .taken) ready
-    (sym (c .before .before .before .before .before .before .before .before .before .is-atom .ensures)
+    .taken) ready (sym (c .before .before .before .before .before .before .before .before .before .is-atom .ensures)
     ∙ c .before .before .before .before .before .before .before .before .if4 .taken) (not-true (a .s .opened) (flags .1))
-    (c .before .before .before .before .before .atom .result) (c .before .before .before .before .before .atom .last .0)
-    (c .before .before .before .before .before .atom .last .1 .0)
-    (λ T e. c .before .before .before .before .before .atom .ensures T (a .text .now) e ready)
-    (omega (arith, c .before .before .before .before .before .atom .kept)))
+    (after-atom .result) (after-atom .last .0) (after-atom .last .1 .0) (λ T e. after-atom .ensures T (a .text .now) e ready)
+    (omega (arith, after-atom .kept)))
 
 array-begins-requires : tie.Need-array-begins-requires
 array-begins-requires c κs = search needs
@@ -104,14 +101,16 @@ sub-take-word c = let w = c .before .before .before .before .word-end .ensures (
 
 take-word-requires : tie.Need-take-word-requires
 take-word-requires c κs =
+    let after-word-end = c .before .before .before .before .word-end in
     let a = c .before .before .before .before .before .before .before .before .before .before .before .before .before .before .before
     .before .args in
     let p = c .before .before .before .before .before .before .before .before .before .before .before .before .before .before .before
     .before .pre in
-    let w = c .before .before .before .before .word-end .ensures (c .before .before .before .if7 .taken) in
-    let end = c .before .before .before .before .word-end .result in (
+    let w = after-word-end .ensures (c .before .before .before .if7 .taken) in
+    let end = after-word-end .result in (
       omega (arith, p .0, w .1),
-      word-short (a .draft .now) (a .list .now) (a .text .now) (a .groups .now) (a .s) (a .at) end (w .2),
+      word-short (a .draft .now) (a .list .now) (a .text .now) (a .groups .now) (a .s) (a .at) end
+          (w .2),
       word-contents (a .draft .now) (a .list .now) (a .text .now) (a .groups .now) (a .s) (a .at) end (w .2),
       p .1,
     )
@@ -130,18 +129,17 @@ same-length-5 c = search needs
 
 returns-4 : tie.Need-returns-4
 returns-4 c =
+    let after-word-end = c .before .before .before .before .before .before .before .before .before .before .before .before .word-end in
     let a = c .before .before .before .before .before .before .before .before .before .before .before .before .before .before .before
     .before .before .before .before .before .before .before .before .before .args in
-    let w = c .before .before .before .before .before .before .before .before .before .before .before .before .word-end .ensures
-    (c .before .before .before .before .before .before .before .before .before .before .before .if7 .taken) in
+    let w = after-word-end .ensures (c .before .before .before .before .before .before .before .before .before .before .before .if7 .taken)
+    in
     let took = c .before .before .before .before .before .before .before .take-word in
-    rw (c .behind2 .ensures)
-    (word-on (a .draft .now) (a .list .now) (a .text .now) (a .groups .now) (a .s) (a .at)
-    (c .before .before .before .before .before .before .before .before .before .before .before .before .word-end .result) (w .2) (w .0)
-    (w .3)
-    (not-true (a .s .metacommand) (c .before .before .before .before .before .before .before .before .before .before .before .before .before
-    .if6 .taken)) (took .result) (took .last .1 .0) (took .last .1 .1 .0) (took .last .1 .1 .1 .0) (took .ensures)
-    (omega (arith, took .kept)) (omega (arith, took .kept)))
+    rw (c .behind2 .ensures) (word-on (a .draft .now) (a .list .now) (a .text .now) (a .groups .now) (a .s) (a .at) (after-word-end .result)
+    (w .2) (w .0) (w .3) (not-true (a .s .metacommand)
+    (c .before .before .before .before .before .before .before .before .before .before .before .before .before .if6 .taken))
+    (took .result) (took .last .1 .0) (took .last .1 .1 .0) (took .last .1 .1 .1 .0) (took .ensures) (omega (arith, took .kept))
+    (omega (arith, took .kept)))
 
 any-requires : tie.Need-any-requires
 any-requires c κs = search needs

@@ -44,6 +44,7 @@ same-length-2 c = search needs
 returns : tie.Need-returns
 unfolding filled
 returns c =
+    let after-fill = c .before .before .before .before .before .before .fill in
     let a = c .before .before .before .before .before .before .before .before .before .before .before .before .before .before .before .args
     in
     let p = c .before .before .before .before .before .before .before .before .before .before .before .before .before .before .before .pre
@@ -52,9 +53,8 @@ returns c =
     let numbers = written-one (a .list .now) (a .held) (a .used) e (a .kind) (number-of-kind (a .kind) (p .0) (p .1)) in (
       c .before .before .before .before .before .before .before .before .before .before .row .ensures ∙ rw (p .8, p .9) at numbers,
       both-filled (a .draft .now) (a .kind) (a .place) (a .text-from) (a .text-len) (a .data-from) (a .data-len) (a .count) (a .text .now)
-          (a .used)
-          (c .before .before .before .before .before .before .fill .last .1 .1 .1 .1 .0) (c .before .before .fill2 .last .1 .1 .1 .1 .0)
-          (p .3) (p .8) (p .9) (c .before .before .before .before .before .before .fill .ensures) (c .before .before .fill2 .ensures),
+          (a .used) (after-fill .last .1 .1 .1 .1 .0) (c .before .before .fill2 .last .1 .1 .1 .1 .0) (p .3) (p .8) (p .9)
+          (after-fill .ensures) (c .before .before .fill2 .ensures),
     )
 
 pub full-spec : {M : Type 1} → statement M

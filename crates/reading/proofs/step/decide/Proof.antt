@@ -36,25 +36,14 @@ same-length c = search needs
 
 returns : tie.Need-returns
 returns c =
+    let after-top = c .before .before .before .before .top in
+    let after-verdict = c .before .before .before .verdict in
     let a = c .before .before .before .before .before .before .before .before .before .before .args in
-    stopped (c .before .before .before .before .before .before .before .before .before .before .args .s)
-    (c .before .before .before .before .before .before .before .before .before .before .args .list .now)
-    (c .before .before .before .before .before .before .before .before .before .before .args .text .now)
-    (c .before .before .before .before .before .before .before .before .before .before .args .groups .now)
-    (c .before .before .before .before .before .before .before .before .before .before .args .place)
-    (c .before .before .before .before .before .before .before .before .before .before .args .sort)
-    (c .before .before .before .before .before .before .before .before .before .before .args .c)
-    (clean (c .before .before .before .before .before .before .before .before .before .before .args .prefix)
-    (streamAt (c .before .before .before .before .before .before .before .before .before .before .args .draft .now)
-    (c .before .before .before .before .before .before .before .before .before .before .args .place)))
-    (clean (c .before .before .before .before .before .before .before .before .before .before .args .data)
-    (streamAt (c .before .before .before .before .before .before .before .before .before .before .args .draft .now)
-    (c .before .before .before .before .before .before .before .before .before .before .args .from)))
-    (c .before .before .before .verdict .result) (c .before .before .before .before .top .result)
-    (c .before .before .before .verdict .ensures .0)
-    (c .before .before .before .before .before .before .before .before .before .before .pre .1)
-    (c .before .before .before .before .top .ensures) (c .before .v .given .0 .0) (bares (a .lead) (a .place)) (a .groups .now)
-    (c .before .v .given .1)
+    stopped (a .s) (a .list .now) (a .text .now) (a .groups .now) (a .place) (a .sort) (a .c)
+    (clean (a .prefix) (streamAt (a .draft .now) (a .place))) (clean (a .data) (streamAt (a .draft .now) (a .from)))
+    (after-verdict .result) (after-top .result) (after-verdict .ensures .0)
+    (c .before .before .before .before .before .before .before .before .before .before .pre .1) (after-top .ensures)
+    (c .before .v .given .0 .0) (bares (a .lead) (a .place)) (a .groups .now) (c .before .v .given .1)
 
 same-length-2 : tie.Need-same-length-2
 same-length-2 c = search needs
@@ -67,45 +56,20 @@ same-length-4 c = search needs
 
 returns-2 : tie.Need-returns-2
 returns-2 c =
+    let after-top = c .before .before .before .before .before .before .before .before .before .before .before .before .before .before .top
+    in
+    let after-verdict = c .before .before .before .before .before .before .before .before .before .before .before .before .before .verdict
+    in
+    let after-v2 = c .before .before .before .before .before .before .before .before .before .before .before .v2 in
     let a = c .before .before .before .before .before .before .before .before .before .before .before .before .before .before .before
     .before .before .before .before .before .args in
     let after = c .before .before .before .before .before .before .settle in
-    went (c .before .before .before .before .before .before .before .before .before .before .before .before .before .before .before .before
-    .before .before .before .before .args .s)
+    went (a .s) (a .list .now) (a .text .now) (a .groups .now) (a .place) (a .sort) (a .c)
+    (clean (a .prefix) (streamAt (a .draft .now) (a .place))) (clean (a .data) (streamAt (a .draft .now) (a .from)))
+    (after-verdict .result) (after-top .result) (after-verdict .ensures .0)
     (c .before .before .before .before .before .before .before .before .before .before .before .before .before .before .before .before
-    .before .before .before .before .args .list .now)
-    (c .before .before .before .before .before .before .before .before .before .before .before .before .before .before .before .before
-    .before .before .before .before .args .text .now)
-    (c .before .before .before .before .before .before .before .before .before .before .before .before .before .before .before .before
-    .before .before .before .before .args .groups .now)
-    (c .before .before .before .before .before .before .before .before .before .before .before .before .before .before .before .before
-    .before .before .before .before .args .place)
-    (c .before .before .before .before .before .before .before .before .before .before .before .before .before .before .before .before
-    .before .before .before .before .args .sort)
-    (c .before .before .before .before .before .before .before .before .before .before .before .before .before .before .before .before
-    .before .before .before .before .args .c)
-    (clean (c .before .before .before .before .before .before .before .before .before .before .before .before .before .before .before
-    .before .before .before .before .before .args .prefix)
-    (streamAt (c .before .before .before .before .before .before .before .before .before .before .before .before .before .before .before
-    .before .before .before .before .before .args .draft .now)
-    (c .before .before .before .before .before .before .before .before .before .before .before .before .before .before .before .before
-    .before .before .before .before .args .place)))
-    (clean (c .before .before .before .before .before .before .before .before .before .before .before .before .before .before .before
-    .before .before .before .before .before .args .data)
-    (streamAt (c .before .before .before .before .before .before .before .before .before .before .before .before .before .before .before
-    .before .before .before .before .before .args .draft .now)
-    (c .before .before .before .before .before .before .before .before .before .before .before .before .before .before .before .before
-    .before .before .before .before .args .from)))
-    (c .before .before .before .before .before .before .before .before .before .before .before .before .before .verdict .result)
-    (c .before .before .before .before .before .before .before .before .before .before .before .before .before .before .top .result)
-    (c .before .before .before .before .before .before .before .before .before .before .before .before .before .verdict .ensures .0)
-    (c .before .before .before .before .before .before .before .before .before .before .before .before .before .before .before .before
-    .before .before .before .before .pre .1)
-    (c .before .before .before .before .before .before .before .before .before .before .before .before .before .before .top .ensures)
-    (c .before .before .before .before .before .before .before .before .before .before .before .v2 .given .0 .0)
-    (bares (a .lead) (a .place)) (after .result)
-    (after .last .1 .0) (after .last .1 .1 .0) (after .last .1 .1 .1 .0)
-    (c .before .before .before .before .before .before .before .before .before .before .before .v2 .given .1) (after .ensures)
+    .before .before .before .before .pre .1) (after-top .ensures) (after-v2 .given .0 .0) (bares (a .lead) (a .place)) (after .result)
+    (after .last .1 .0) (after .last .1 .1 .0) (after .last .1 .1 .1 .0) (after-v2 .given .1) (after .ensures)
 
 pub decide-spec : {M : Type 1} → statement M
 decide-spec =

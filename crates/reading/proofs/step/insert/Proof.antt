@@ -8,30 +8,21 @@ use Rattle.reading.proofs.step.insert.Statement.{statement}
 use Rattle.reading.proofs.step.insert.Tie as tie
 
 returns : tie.Need-returns
-returns c = too-deep (c .before .before .before .before .before .args .s) (c .before .before .before .before .before .args .list .now)
-    (c .before .before .before .before .before .args .text .now) (c .before .before .before .before .before .args .groups .now)
-    (c .before .before .before .before .before .args .place) (c .before .before .before .before .before .args .sort)
-    (c .before .before .before .before .before .args .c) (clean (c .before .before .before .before .before .args .prefix)
-    (streamAt (c .before .before .before .before .before .args .draft .now) (c .before .before .before .before .before .args .place)))
-    (clean (c .before .before .before .before .before .args .data) (streamAt (c .before .before .before .before .before .args .draft .now)
-    (c .before .before .before .before .before .args .from))) (c .before .before .before .before .before .args .groups .now) (c .if1 .taken)
+returns c =
+    let a = c .before .before .before .before .before .args in
+    too-deep (a .s) (a .list .now) (a .text .now) (a .groups .now) (a .place) (a .sort) (a .c)
+    (clean (a .prefix) (streamAt (a .draft .now) (a .place))) (clean (a .data) (streamAt (a .draft .now) (a .from))) (a .groups .now)
+    (c .if1 .taken)
 
 sub-room : tie.Need-sub-room
 sub-room c = search needs
 
 returns-2 : tie.Need-returns-2
-returns-2 c = no-room (c .before .before .before .before .before .before .args .s)
-    (c .before .before .before .before .before .before .args .list .now)
-    (c .before .before .before .before .before .before .args .text .now)
-    (c .before .before .before .before .before .before .args .groups .now) (c .before .before .before .before .before .before .args .place)
-    (c .before .before .before .before .before .before .args .sort) (c .before .before .before .before .before .before .args .c)
-    (clean (c .before .before .before .before .before .before .args .prefix)
-    (streamAt (c .before .before .before .before .before .before .args .draft .now)
-    (c .before .before .before .before .before .before .args .place)))
-    (clean (c .before .before .before .before .before .before .args .data)
-    (streamAt (c .before .before .before .before .before .before .args .draft .now)
-    (c .before .before .before .before .before .before .args .from))) (omega (arith, c .before .if1 .left))
-    (c .before .before .before .before .before .before .args .groups .now) (c .if2 .taken)
+returns-2 c =
+    let a = c .before .before .before .before .before .before .args in
+    no-room (a .s) (a .list .now) (a .text .now) (a .groups .now) (a .place) (a .sort) (a .c)
+    (clean (a .prefix) (streamAt (a .draft .now) (a .place))) (clean (a .data) (streamAt (a .draft .now) (a .from)))
+    (omega (arith, c .before .if1 .left)) (a .groups .now) (c .if2 .taken)
 
 push-requires : tie.Need-push-requires
 push-requires c κs = search needs
@@ -41,6 +32,7 @@ add-t20 c = search needs
 
 decide-requires : tie.Need-decide-requires
 decide-requires c κs =
+    let a = c .before .before .before .before .before .before .before .before .before .before .before .before .before .args in
     let p = c .before .before .before .before .before .before .before .before .before .before .before .before .before .pre in
     let after = c .before .before .before .before .before .push in (
       omega arith,
@@ -49,19 +41,8 @@ decide-requires c κs =
       p .2,
       p .3,
       p .4,
-      ready-within (c .before .before .before .before .before .before .before .before .before .before .before .before .before .args .s)
-          (c .before .before .before .before .before .before .before .before .before .before .before .before .before .args .list .now)
-          (c .before .before .before .before .before .before .before .before .before .before .before .before .before .args .text .now)
-          (c .before .before .before .before .before .before .before .before .before .before .before .before .before .args .groups .now)
-          (c .before .before .before .before .before .before .before .before .before .before .before .before .before .args .place)
-          (c .before .before .before .before .before .before .before .before .before .before .before .before .before .args .sort)
-          (c .before .before .before .before .before .before .before .before .before .before .before .before .before .args .c)
-          (clean (c .before .before .before .before .before .before .before .before .before .before .before .before .before .args .prefix)
-          (streamAt (c .before .before .before .before .before .before .before .before .before .before .before .before .before .args .draft
-          .now) (c .before .before .before .before .before .before .before .before .before .before .before .before .before .args .place)))
-          (clean (c .before .before .before .before .before .before .before .before .before .before .before .before .before .args .data)
-          (streamAt (c .before .before .before .before .before .before .before .before .before .before .before .before .before .args .draft
-          .now) (c .before .before .before .before .before .before .before .before .before .before .before .before .before .args .from)))
+      ready-within (a .s) (a .list .now) (a .text .now) (a .groups .now) (a .place) (a .sort)
+          (a .c) (clean (a .prefix) (streamAt (a .draft .now) (a .place))) (clean (a .data) (streamAt (a .draft .now) (a .from)))
           (after .last .0) (omega (arith, c .before .before .before .before .before .before .before .before .if1 .left)) (p .5)
           (omega (arith, after .kept, p .5 .array)) (after .ensures),
       p .6,
@@ -78,42 +59,19 @@ same-length-3 c = search needs
 
 returns-3 : tie.Need-returns-3
 returns-3 c =
+    let a = c .before .before .before .before .before .before .before .before .before .before .before .before .before .before .before
+    .before .before .before .before .before .args in
+    let after-push = c .before .before .before .before .before .before .before .before .before .before .before .before .push in
     let after = c .before .before .before .before .before .before .decide in
-    brought (c .before .before .before .before .before .before .before .before .before .before .before .before .before .before .before
-    .before .before .before .before .before .args .s)
-    (c .before .before .before .before .before .before .before .before .before .before .before .before .before .before .before .before
-    .before .before .before .before .args .list .now)
-    (c .before .before .before .before .before .before .before .before .before .before .before .before .before .before .before .before
-    .before .before .before .before .args .text .now)
-    (c .before .before .before .before .before .before .before .before .before .before .before .before .before .before .before .before
-    .before .before .before .before .args .groups .now)
-    (c .before .before .before .before .before .before .before .before .before .before .before .before .before .before .before .before
-    .before .before .before .before .args .place)
-    (c .before .before .before .before .before .before .before .before .before .before .before .before .before .before .before .before
-    .before .before .before .before .args .sort)
-    (c .before .before .before .before .before .before .before .before .before .before .before .before .before .before .before .before
-    .before .before .before .before .args .c)
-    (clean (c .before .before .before .before .before .before .before .before .before .before .before .before .before .before .before
-    .before .before .before .before .before .args .prefix)
-    (streamAt (c .before .before .before .before .before .before .before .before .before .before .before .before .before .before .before
-    .before .before .before .before .before .args .draft .now)
-    (c .before .before .before .before .before .before .before .before .before .before .before .before .before .before .before .before
-    .before .before .before .before .args .place)))
-    (clean (c .before .before .before .before .before .before .before .before .before .before .before .before .before .before .before
-    .before .before .before .before .before .args .data)
-    (streamAt (c .before .before .before .before .before .before .before .before .before .before .before .before .before .before .before
-    .before .before .before .before .before .args .draft .now)
-    (c .before .before .before .before .before .before .before .before .before .before .before .before .before .before .before .before
-    .before .before .before .before .args .from)))
+    brought (a .s) (a .list .now) (a .text .now) (a .groups .now) (a .place) (a .sort) (a .c)
+    (clean (a .prefix) (streamAt (a .draft .now) (a .place))) (clean (a .data) (streamAt (a .draft .now) (a .from)))
     (omega (
       arith,
       c .before .before .before .before .before .before .before .before .before .before .before .before .before .before
           .before .if1 .left,
-    )) (c .before .before .before .before .before .before .before .before .before .before .before .before .push .last
-    .0) (after .result)
-    (after .last .1 .0) (after .last .1 .1 .0) (after .last .1 .1 .1 .0)
+    )) (after-push .last .0) (after .result) (after .last .1 .0) (after .last .1 .1 .0) (after .last .1 .1 .1 .0)
     (c .before .before .before .before .before .before .before .before .before .before .before .before .before .before .if2 .left)
-    (c .before .before .before .before .before .before .before .before .before .before .before .before .push .ensures) (after .ensures)
+    (after-push .ensures) (after .ensures)
 
 pub insert-spec : {M : Type 1} → statement M
 insert-spec =

@@ -19,34 +19,19 @@ shortage-requires : tie.Need-shortage-requires
 shortage-requires c κs = search needs
 
 returns : tie.Need-returns
-returns c = refused-as (c .before .before .before .before .before .before .args .draft .now)
-    (c .before .before .before .before .before .before .args .lead) (c .before .before .before .before .before .before .args .m)
-    (c .before .before .before .before .before .before .args .place) (c .before .before .before .before .before .before .args .prefix)
-    (c .before .before .before .before .before .before .args .from) (c .before .before .before .before .before .before .args .data)
-    (c .before .before .before .before .before .before .pre .5) (c .before .before .before .before .before .before .args .s)
-    (c .before .before .before .before .before .before .args .list .now)
-    (c .before .before .before .before .before .before .args .text .now)
-    (c .before .before .before .before .before .before .args .groups .now) (c .before .shortage .result)
-    (c .before .before .before .before .before .before .args .groups .now) (c .before .shortage .ensures) (c .if1 .taken)
+returns c =
+    let a = c .before .before .before .before .before .before .args in
+    refused-as (a .draft .now) (a .lead) (a .m) (a .place) (a .prefix) (a .from) (a .data)
+    (c .before .before .before .before .before .before .pre .5) (a .s) (a .list .now) (a .text .now) (a .groups .now)
+    (c .before .shortage .result) (a .groups .now) (c .before .shortage .ensures) (c .if1 .taken)
 
 write-requires : tie.Need-write-requires
 unfolding kinds-fine
 write-requires c κs =
+    let a = c .before .before .before .before .before .before .before .before .args in
     let p = c .before .before .before .before .before .before .before .before .pre in
-    let fit = roomy (c .before .before .before .before .before .before .before .before .args .draft .now)
-    (c .before .before .before .before .before .before .before .before .args .lead)
-    (c .before .before .before .before .before .before .before .before .args .m)
-    (c .before .before .before .before .before .before .before .before .args .place)
-    (c .before .before .before .before .before .before .before .before .args .prefix)
-    (c .before .before .before .before .before .before .before .before .args .from)
-    (c .before .before .before .before .before .before .before .before .args .data)
-    (c .before .before .before .before .before .before .before .before .pre .5)
-    (c .before .before .before .before .before .before .before .before .args .s)
-    (c .before .before .before .before .before .before .before .before .args .list .now)
-    (c .before .before .before .before .before .before .before .before .args .text .now)
-    (c .before .before .before .before .before .before .before .before .args .groups .now)
-    (sym (c .before .before .before .shortage .ensures) ∙ c .before .before .if1 .left)
-    (c .before .before .before .before .before .before .before .before .pre .6) in
+    let fit = roomy (a .draft .now) (a .lead) (a .m) (a .place) (a .prefix) (a .from) (a .data) (p .5) (a .s) (a .list .now) (a .text .now)
+    (a .groups .now) (sym (c .before .before .before .shortage .ensures) ∙ c .before .before .if1 .left) (p .6) in
     let ready = p .6 in (
       p .0,
       p .1 .0,
@@ -75,19 +60,15 @@ change-requires c κs =
 
 add-t27 : tie.Need-add-t27
 add-t27 c =
+    let a = c .before .before .before .before .before .before .before .before .before .before .before .before .before .before .before
+    .before .before .before .args in
     let p = c .before .before .before .before .before .before .before .before .before .before .before .before .before .before .before
     .before .before .before .pre in
     let ready = p .6 in
     omega (
       arith,
       c .before .before .before .before .size .ensures,
-      small-size
-          (c .before .before .before .before .before .before .before .before .before .before .before .before .before .before .before .before
-          .before .before .args .m) (c .before .before .before .before .before .before .before .before .before .before .before .before
-          .before
-          .before .before .before .before .before .args .prefix)
-          (c .before .before .before .before .before .before .before .before .before .before .before .before .before .before .before .before
-          .before .before .args .data),
+      small-size (a .m) (a .prefix) (a .data),
       p .2,
       p .3,
       p .4,
@@ -105,38 +86,18 @@ same-length-3 c = search needs
 
 returns-2 : tie.Need-returns-2
 returns-2 c =
+    let a = c .before .before .before .before .before .before .before .before .before .before .before .before .before .before .before
+    .before .before .before .args in
+    let after-write = c .before .before .before .before .before .before .before .before .before .write in
+    let after-size = c .before .before .before .before .size in
     let p = c .before .before .before .before .before .before .before .before .before .before .before .before .before .before .before
     .before .before .before .pre in
-    allowed-as (c .before .before .before .before .before .before .before .before .before .before .before .before .before .before .before
-    .before .before .before .args .draft .now)
-    (c .before .before .before .before .before .before .before .before .before .before .before .before .before .before .before .before
-    .before .before .args .lead) (c .before .before .before .before .before .before .before .before .before .before .before .before
-    .before .before .before .before .before .before .args .m)
-    (c .before .before .before .before .before .before .before .before .before .before .before .before .before .before .before .before
-    .before .before .args .place) (c .before .before .before .before .before .before .before .before .before .before .before .before
-    .before .before .before .before .before .before .args .prefix)
-    (c .before .before .before .before .before .before .before .before .before .before .before .before .before .before .before .before
-    .before .before .args .from) (c .before .before .before .before .before .before .before .before .before .before .before .before
-    .before .before .before .before .before .before .args .data)
-    (c .before .before .before .before .before .before .before .before .before .before .before .before .before .before .before .before
-    .before .before .pre .5) (c .before .before .before .before .before .before .before .before .before .before .before .before .before
-    .before .before .before .before .before .args .s)
-    (c .before .before .before .before .before .before .before .before .before .before .before .before .before .before .before .before
-    .before .before .args .list .now)
-    (c .before .before .before .before .before .before .before .before .before .before .before .before .before .before .before .before
-    .before .before .args .text .now)
-    (c .before .before .before .before .before .before .before .before .before .before .before .before .before .before .before .before
-    .before .before .args .groups .now)
-    (sym (c .before .before .before .before .before .before .before .before .before .before .before .before .before .shortage .ensures)
-    ∙ c .before .before .before .before .before .before .before .before .before .before .before .before .if1 .left) (p .6) (p .3) (p .4)
-    (c .before .before .before .before .before .before .before .before .before .write .last .1 .0)
-    (c .before .before .before .before .before .before .before .before .before .write .last .1 .1 .0)
-    (c .before .before .change .last .0) (c .before .before .before .before .before .before .before .before .before .write .result)
-    (c .before .before .before .before .size .result) (c .before .before .change .result)
-    (c .before .before .before .before .before .before .before .before .before .write .ensures .1)
-    (c .before .before .before .before .before .before .before .before .before .write .ensures .2)
-    (c .before .before .before .before .before .before .before .before .before .write .ensures .0)
-    (c .before .before .before .before .size .ensures) (c .before .before .change .ensures .0) (c .before .before .change .ensures .1)
+    allowed-as (a .draft .now) (a .lead) (a .m) (a .place) (a .prefix) (a .from) (a .data) (p .5) (a .s) (a .list .now) (a .text .now)
+    (a .groups .now) (sym (c .before .before .before .before .before .before .before .before .before .before .before .before .before
+    .shortage .ensures) ∙ c .before .before .before .before .before .before .before .before .before .before .before .before .if1 .left)
+    (p .6) (p .3) (p .4) (after-write .last .1 .0) (after-write .last .1 .1 .0) (c .before .before .change .last .0)
+    (after-write .result) (after-size .result) (c .before .before .change .result) (after-write .ensures .1) (after-write .ensures .2)
+    (after-write .ensures .0) (after-size .ensures) (c .before .before .change .ensures .0) (c .before .before .change .ensures .1)
     (omega (arith, c .before .before .change .kept, p .6 .array))
 
 pub settle-spec : {M : Type 1} → statement M

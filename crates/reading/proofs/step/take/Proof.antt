@@ -23,22 +23,9 @@ inserts-requires c κs = search needs
 
 insert-requires : tie.Need-insert-requires
 insert-requires c κs =
-    let p = c .before .before .before .before .before .before .before .before .before .before .pre in (
-      first-shown (c .before .before .before .before .before .before .before .before .before .before .args .draft .now)
-          (c .before .before .before .before .before .before .before .before .before .before .args .place)
-          (c .before .before .before .before .before .before .before .before .before .before .args .prefix)
-          (c .before .before .before .before .before .before .before .before .before .before .args .from)
-          (c .before .before .before .before .before .before .before .before .before .before .args .data)
-          (c .before .before .before .before .before .before .before .before .before .before .args .sort)
-          (c .before .before .before .before .before .before .before .before .before .before .pre .4)
-          (c .before .before .before .before .before .before .before .before .before .before .pre .0),
-      p .1,
-      p .2,
-      p .3,
-      p .4,
-      p .5,
-      p .7,
-    )
+    let a = c .before .before .before .before .before .before .before .before .before .before .args in
+    let p = c .before .before .before .before .before .before .before .before .before .before .pre in
+    (first-shown (a .draft .now) (a .place) (a .prefix) (a .from) (a .data) (a .sort) (p .4) (p .0), p .1, p .2, p .3, p .4, p .5, p .7)
 
 same-length : tie.Need-same-length
 same-length c = search needs
@@ -52,64 +39,25 @@ same-length-3 c = search needs
 returns : tie.Need-returns
 unfolding shows
 returns c =
+    let a = c .before .before .before .before .before .before .before .before .before .before .before .before .before .before .before
+    .before .before .args in
+    let p = c .before .before .before .before .before .before .before .before .before .before .before .before .before .before .before
+    .before .before .pre in
     let after = c .before .before .before .before .before .before .insert in
-    let seen = first-shown (c .before .before .before .before .before .before .before .before .before .before .before .before .before
-    .before .before .before .before .args .draft .now)
-    (c .before .before .before .before .before .before .before .before .before .before .before .before .before .before .before .before
-    .before .args .place) (c .before .before .before .before .before .before .before .before .before .before .before .before .before
-    .before .before .before .before .args .prefix)
-    (c .before .before .before .before .before .before .before .before .before .before .before .before .before .before .before .before
-    .before .args .from) (c .before .before .before .before .before .before .before .before .before .before .before .before .before
-    .before .before .before .before .args .data)
-    (c .before .before .before .before .before .before .before .before .before .before .before .before .before .before .before .before
-    .before .args .sort) (c .before .before .before .before .before .before .before .before .before .before .before .before .before
-    .before .before .before .before .pre .4)
-    (c .before .before .before .before .before .before .before .before .before .before .before .before .before .before .before .before
-    .before .pre .0) in
-    behind-open (c .before .before .before .before .before .before .before .before .before .before .before .before .before .before .before
-    .before .before .args .s) (c .before .before .before .before .before .before .before .before .before .before .before .before .before
-    .before .before .before .before .args .list .now)
-    (c .before .before .before .before .before .before .before .before .before .before .before .before .before .before .before .before
-    .before .args .text .now) (c .before .before .before .before .before .before .before .before .before .before .before .before .before
-    .before .before .before .before .args .groups .now)
-    (c .before .before .before .before .before .before .before .before .before .before .before .before .before .before .before .before
-    .before .args .place) (c .before .before .before .before .before .before .before .before .before .before .before .before .before
-    .before .before .before .before .args .sort)
-    (getD (c .before .before .before .before .before .before .before .before .before .before .before .before .before .before .before
-    .before .before .args .draft .now)
-    (c .before .before .before .before .before .before .before .before .before .before .before .before .before .before .before .before
-    .before .args .place) 0) (clean
-    (c .before .before .before .before .before .before .before .before .before .before .before .before .before .before .before .before
-    .before .args .prefix) (streamAt
-    (c .before .before .before .before .before .before .before .before .before .before .before .before .before .before .before .before
-    .before .args .draft .now) (c .before .before .before .before .before .before .before .before .before .before .before .before
-    .before .before .before .before .before .args .place)))
-    (clean (c .before .before .before .before .before .before .before .before .before .before .before .before .before .before .before
-    .before .before .args .data) (streamAt
-    (c .before .before .before .before .before .before .before .before .before .before .before .before .before .before .before .before
-    .before .args .draft .now) (c .before .before .before .before .before .before .before .before .before .before .before .before
-    .before .before .before .before .before .args .from))) (after .result)
+    let seen = first-shown (a .draft .now) (a .place) (a .prefix) (a .from) (a .data) (a .sort) (p .4) (p .0) in
+    behind-open (a .s) (a .list .now) (a .text .now) (a .groups .now) (a .place) (a .sort) (getD (a .draft .now) (a .place) 0)
+    (clean (a .prefix) (streamAt (a .draft .now) (a .place))) (clean (a .data) (streamAt (a .draft .now) (a .from))) (after .result)
     (after .last .1 .0) (after .last .1 .1 .0) (after .last .1 .1 .1 .0)
     (sym (c .before .before .before .before .before .before .before .before .before .before .before .inserts .ensures
-    (clean (c .before .before .before .before .before .before .before .before .before .before .before .before .before .before .before
-    .before .before .args .prefix) (streamAt
-    (c .before .before .before .before .before .before .before .before .before .before .before .before .before .before .before .before
-    .before .args .draft .now) (c .before .before .before .before .before .before .before .before .before .before .before .before
-    .before .before .before .before .before .args .place))) (seen .0))
+    (clean (a .prefix) (streamAt (a .draft .now) (a .place))) (seen .0))
     ∙ c .before .before .before .before .before .before .before .before .before .before .if1 .taken) (after .ensures)
 
 decide-requires : tie.Need-decide-requires
 decide-requires c κs =
+    let a = c .before .before .before .before .before .before .before .before .before .before .args in
     let p = c .before .before .before .before .before .before .before .before .before .before .pre in (
       omega arith,
-      first-shown (c .before .before .before .before .before .before .before .before .before .before .args .draft .now)
-          (c .before .before .before .before .before .before .before .before .before .before .args .place)
-          (c .before .before .before .before .before .before .before .before .before .before .args .prefix)
-          (c .before .before .before .before .before .before .before .before .before .before .args .from)
-          (c .before .before .before .before .before .before .before .before .before .before .args .data)
-          (c .before .before .before .before .before .before .before .before .before .before .args .sort)
-          (c .before .before .before .before .before .before .before .before .before .before .pre .4)
-          (c .before .before .before .before .before .before .before .before .before .before .pre .0),
+      first-shown (a .draft .now) (a .place) (a .prefix) (a .from) (a .data) (a .sort) (p .4) (p .0),
       p .1,
       p .2,
       p .3,
@@ -130,50 +78,17 @@ same-length-6 c = search needs
 returns-2 : tie.Need-returns-2
 unfolding shows
 returns-2 c =
+    let a = c .before .before .before .before .before .before .before .before .before .before .before .before .before .before .before
+    .before .before .args in
+    let p = c .before .before .before .before .before .before .before .before .before .before .before .before .before .before .before
+    .before .before .pre in
     let after = c .before .before .before .before .before .before .decide in
-    let seen = first-shown (c .before .before .before .before .before .before .before .before .before .before .before .before .before
-    .before .before .before .before .args .draft .now)
-    (c .before .before .before .before .before .before .before .before .before .before .before .before .before .before .before .before
-    .before .args .place) (c .before .before .before .before .before .before .before .before .before .before .before .before .before
-    .before .before .before .before .args .prefix)
-    (c .before .before .before .before .before .before .before .before .before .before .before .before .before .before .before .before
-    .before .args .from) (c .before .before .before .before .before .before .before .before .before .before .before .before .before
-    .before .before .before .before .args .data)
-    (c .before .before .before .before .before .before .before .before .before .before .before .before .before .before .before .before
-    .before .args .sort) (c .before .before .before .before .before .before .before .before .before .before .before .before .before
-    .before .before .before .before .pre .4)
-    (c .before .before .before .before .before .before .before .before .before .before .before .before .before .before .before .before
-    .before .pre .0) in
-    by-itself (c .before .before .before .before .before .before .before .before .before .before .before .before .before .before .before
-    .before .before .args .s) (c .before .before .before .before .before .before .before .before .before .before .before .before .before
-    .before .before .before .before .args .list .now)
-    (c .before .before .before .before .before .before .before .before .before .before .before .before .before .before .before .before
-    .before .args .text .now) (c .before .before .before .before .before .before .before .before .before .before .before .before .before
-    .before .before .before .before .args .groups .now)
-    (c .before .before .before .before .before .before .before .before .before .before .before .before .before .before .before .before
-    .before .args .place) (c .before .before .before .before .before .before .before .before .before .before .before .before .before
-    .before .before .before .before .args .sort)
-    (getD (c .before .before .before .before .before .before .before .before .before .before .before .before .before .before .before
-    .before .before .args .draft .now)
-    (c .before .before .before .before .before .before .before .before .before .before .before .before .before .before .before .before
-    .before .args .place) 0) (clean
-    (c .before .before .before .before .before .before .before .before .before .before .before .before .before .before .before .before
-    .before .args .prefix) (streamAt
-    (c .before .before .before .before .before .before .before .before .before .before .before .before .before .before .before .before
-    .before .args .draft .now) (c .before .before .before .before .before .before .before .before .before .before .before .before
-    .before .before .before .before .before .args .place)))
-    (clean (c .before .before .before .before .before .before .before .before .before .before .before .before .before .before .before
-    .before .before .args .data) (streamAt
-    (c .before .before .before .before .before .before .before .before .before .before .before .before .before .before .before .before
-    .before .args .draft .now) (c .before .before .before .before .before .before .before .before .before .before .before .before
-    .before .before .before .before .before .args .from))) (after .result)
+    let seen = first-shown (a .draft .now) (a .place) (a .prefix) (a .from) (a .data) (a .sort) (p .4) (p .0) in
+    by-itself (a .s) (a .list .now) (a .text .now) (a .groups .now) (a .place) (a .sort) (getD (a .draft .now) (a .place) 0)
+    (clean (a .prefix) (streamAt (a .draft .now) (a .place))) (clean (a .data) (streamAt (a .draft .now) (a .from))) (after .result)
     (after .last .1 .0) (after .last .1 .1 .0) (after .last .1 .1 .1 .0)
     (sym (c .before .before .before .before .before .before .before .before .before .before .before .inserts .ensures
-    (clean (c .before .before .before .before .before .before .before .before .before .before .before .before .before .before .before
-    .before .before .args .prefix) (streamAt
-    (c .before .before .before .before .before .before .before .before .before .before .before .before .before .before .before .before
-    .before .args .draft .now) (c .before .before .before .before .before .before .before .before .before .before .before .before
-    .before .before .before .before .before .args .place))) (seen .0))
+    (clean (a .prefix) (streamAt (a .draft .now) (a .place))) (seen .0))
     ∙ c .before .before .before .before .before .before .before .before .before .before .if1 .left) (after .ensures)
 
 pub take-spec : {M : Type 1} → statement M

@@ -69,14 +69,15 @@ bare-requires c κs =
 
 mul-row : tie.Need-mul-row
 mul-row c =
+    let after-bare = c .before .before .before .bare in
     let a = c .before .before .before .before .before .before .before .before .before .before .before .before .before .args in
     omega (
       arith,
-      c .before .before .before .bare .ensures .0,
+      after-bare .ensures .0,
       bare-count (a .lead) (a .place),
       one-small (a .lead),
       c .before .before .before .before .before .before .before .before .before .before .before .before .before .pre .6 .held,
-      c .before .before .before .bare .kept,
+      after-bare .kept,
     )
 
 cast-row : tie.Need-cast-row
@@ -97,12 +98,13 @@ cast-row-3 c =
 
 row-requires : tie.Need-row-requires
 row-requires c κs =
+    let after-bare = c .before .before .before .bare in
     let a = c .before .before .before .before .before .before .before .before .before .before .before .before .before .args in
     let p = c .before .before .before .before .before .before .before .before .before .before .before .before .before .pre in
     omega (
       arith,
-      c .before .before .before .bare .ensures .0,
-      c .before .before .before .bare .kept,
+      after-bare .ensures .0,
+      after-bare .kept,
       bare-count (a .lead) (a .place),
       c .before .before .before .before .before .before .before .one .ensures,
       c .before .before .before .before .before .before .if1 .left,
@@ -158,28 +160,24 @@ same-length-2 c = search needs
 returns-3 : tie.Need-returns-3
 unfolding kinds-fine
 returns-3 c =
+    let after-bare = c .before .before .before .before .before .before .before .before .before .before .bare in
+    let after-row = c .before .before .before .before .before .before .row in
     let a = c .before .before .before .before .before .before .before .before .before .before .before .before .before .before .before
     .before .before .before .before .before .args in
     let p = c .before .before .before .before .before .before .before .before .before .before .before .before .before .before .before
     .before .before .before .before .before .pre in
     let size = c .before .before .before .before .before .before .before .before .before .before .before .before .before .before .before
     .cut-length .ensures in
-    λ groups ready.
-    rw size
-    (held-one (a .draft .now) (a .lead) (a .m) (a .place) (a .length) (p .5) (a .s) (a .list .now) (a .text .now) groups (p .2) ready
-    (rw (← c .before .before .before .before .before .before .before .before .before .before .before .before .before .before .one .ensures)
-    (c .before .before .before .before .before .before .before .before .before .before .before .before .before .if1 .left))
-    (rw (← size) (c .before .before .before .before .before .before .before .before .before .before .before .before .if2 .left)) (p .4)
-    (p .1 .1) (c .before .before .before .before .before .before .before .before .before .before .bare .last .0)
-    (c .before .before .before .before .before .before .row .last .0) (c .before .before .as-it-stands .last .1 .1 .1 .0)
-    (c .before .before .before .before .before .before .before .before .before .before .bare .result)
-    (c .before .before .before .before .before .before .before .before .before .before .bare .ensures .0)
-    (c .before .before .before .before .before .before .before .before .before .before .bare .ensures .1)
-    (rw (← size) (c .before .before .before .before .before .before .row .ensures))
+    λ groups ready. rw size (held-one (a .draft .now) (a .lead) (a .m) (a .place) (a .length) (p .5) (a .s) (a .list .now) (a .text .now)
+    groups (p .2) ready (rw (← c .before .before .before .before .before .before .before .before .before .before .before .before .before
+    .before .one .ensures) (c .before .before .before .before .before .before .before .before .before .before .before .before .before
+    .if1 .left)) (rw (← size) (c .before .before .before .before .before .before .before .before .before .before .before .before .if2
+    .left)) (p .4) (p .1 .1) (after-bare .last .0) (after-row .last .0) (c .before .before .as-it-stands .last .1 .1 .1 .0)
+    (after-bare .result) (after-bare .ensures .0) (after-bare .ensures .1) (rw (← size) (after-row .ensures))
     (rw (
       ← size,
-      ← c .before .before .before .before .before .before .before .before .before .before .before .before .before .before .before
-          .before .cut-from .ensures,
+      ← c .before .before .before .before .before .before .before .before .before .before .before .before .before .before
+          .before .before .cut-from .ensures,
     ) (c .before .before .as-it-stands .ensures)))
 
 pub hold-spec : {M : Type 1} → statement M

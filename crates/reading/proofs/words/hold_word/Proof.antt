@@ -19,12 +19,14 @@ enum-known-v-2 c = search needs
 
 hold-requires : tie.Need-hold-requires
 hold-requires c κs =
+    let after-word = c .before .before .before .before .before .word in
+    let after-v2 = c .before .before .before .v2 in
     let p = c .before .before .before .before .before .before .before .before .before .pre in (
       p .0,
-      rw (c .before .before .before .v2 .given .1) at (c .before .before .before .before .before .word .ensures .1
-          (c .before .before .before .before .before .before .before .before .before .args .s .depth)),
+      rw (after-v2 .given .1) at
+          (after-word .ensures .1 (c .before .before .before .before .before .before .before .before .before .args .s .depth)),
       rw
-          (c .before .before .before .v2 .given .1) at (c .before .before .before .before .before .word .ensures .2),
+          (after-v2 .given .1) at (after-word .ensures .2),
       p .1,
       p .2,
       p .3,

@@ -52,6 +52,8 @@ same-length-3 c = search needs
 
 returns-2 : tie.Need-returns-2
 returns-2 c =
+    let after-enter = c .before .before .before .before .before .before .before .before .before .before .enter in
+    let after-hold-word = c .before .before .before .before .hold-word in
     let a = c .before .before .before .before .before .before .before .before .before .before .before .before .before .before .before
     .before .before .before .args in
     let p = c .before .before .before .before .before .before .before .before .before .before .before .before .before .before .before
@@ -60,17 +62,14 @@ returns-2 c =
     let shallow = not-crowded (a .s)
     (sym (c .before .before .before .before .before .before .before .before .before .before .before .before .before .crowded .ensures)
     ∙ c .before .before .before .before .before .before .before .before .before .before .before .before .if1 .left) in
-    let pushed = c .before .before .before .before .before .before .before .before .before .before .enter .last .0 in
-    let inner = c .before .before .before .before .before .before .before .before .before .before .enter .ensures .0 in
-    let so = rw inner at (c .before .before .before .before .before .before .before .before .before .before .enter .ensures .1) in
-    λ e regularly.
-    entered (a .s) (a .list .now) (a .text .now) (a .groups .now) (a .place) T regularly shallow pushed so
-    (c .before .before .before .before .hold-word .result)
-    (c .before .before .before .before .hold-word .last .1 .0) (c .before .before .before .before .hold-word .last .1 .1 .0)
-    (rw (inner, c .before .before .before .before .before .before .before .brings .ensures) at
-    (c .before .before .before .before .hold-word .ensures e pushed
+    let pushed = after-enter .last .0 in
+    let inner = after-enter .ensures .0 in
+    let so = rw inner at (after-enter .ensures .1) in
+    λ e regularly. entered (a .s) (a .list .now) (a .text .now) (a .groups .now) (a .place) T regularly shallow pushed so
+    (after-hold-word .result) (after-hold-word .last .1 .0) (after-hold-word .last .1 .1 .0)
+    (rw (inner, c .before .before .before .before .before .before .before .brings .ensures) at (after-hold-word .ensures e pushed
     (rw inner (ready-entered (a .s) (a .list .now) (a .text .now) (a .groups .now) (a .place) (p .3) shallow pushed
-    (omega (arith, c .before .before .before .before .before .before .before .before .before .before .enter .kept, p .3 .array)) so))))
+    (omega (arith, after-enter .kept, p .3 .array)) so))))
 
 pub take-word-spec : {M : Type 1} → statement M
 take-word-spec =

@@ -142,6 +142,8 @@ loop-less-2 c =
 
 loop-again-2 : tie.Need-loop-again-2 Inv-loop μ-loop
 loop-again-2 c =
+    let after-encoded-length = c .before .before .before .before .before .before .before .encoded-length in
+    let after-encode = c .before .before .before .before .before .encode in
     let a = c .before .before .before .before .before .before .before .before .before .before .before .before .before .before .before
     .before .before .before .before .before .before .args in
     let l = c .before .before .before .before .before .before .before .before .before .before .before .before .before .before .before
@@ -149,12 +151,9 @@ loop-again-2 c =
     let g = c .before .before .before .before .before .before .before .before .before .number .given in
     let is = sym (c .before .before .before .before .before .before .before .before .before .before .before .character-at .ensures)
     ∙ g .1 in
-    rw (c .before .before .put .ensures)
-    (advance-coded (a .draft .now) (a .from) (a .n) (a .out .now) (l .out) (l .i) (l .k) (g .0 .0) (g .0 .1 .0)
-    (c .before .before .before .before .before .before .before .encoded-length .result)
-    (c .before .before .before .before .before .encode .result .bytes)
-    (l .inv) is (c .before .before .before .before .before .before .before .encoded-length .ensures)
-    (c .before .before .before .before .before .before .if4 .left) (c .before .before .before .before .before .encode .ensures .0))
+    rw (c .before .before .put .ensures) (advance-coded (a .draft .now) (a .from) (a .n) (a .out .now) (l .out) (l .i) (l .k) (g .0 .0)
+    (g .0 .1 .0) (after-encoded-length .result) (after-encode .result .bytes) (l .inv) is (after-encoded-length .ensures)
+    (c .before .before .before .before .before .before .if4 .left) (after-encode .ensures .0))
 
 same-length-4 : tie.Need-same-length-4 Inv-loop μ-loop
 same-length-4 c = c .before .loop .inv .long

@@ -34,25 +34,27 @@ sub-result c = search needs
 
 returns-3 : tie.Need-returns-3
 unfolding sortOf up down nested
-returns-3 c = rw (
-  c .before .before .before .if1 .left,
-  c .before .before .if2 .taken,
-  ne-eqb
-      (c .before .before .before .before .args .number) 0x7B (c .before .if3 .left),
-  eq-eqb (c .before .before .before .before .args .number)
-      0x7D (c .if4 .taken),
-)
+returns-3 c =
+    let a = c .before .before .before .before .args in
+    rw (
+      c .before .before .before .if1 .left,
+      c .before .before .if2 .taken,
+      ne-eqb (a .number) 0x7B (c .before .if3 .left),
+      eq-eqb
+          (a .number) 0x7D (c .if4 .taken),
+    )
 
 returns-4 : tie.Need-returns-4
 unfolding sortOf up down nested
-returns-4 c = rw (
-  c .before .before .before .if1 .left,
-  c .before .before .if2 .taken,
-  ne-eqb
-      (c .before .before .before .before .args .number) 0x7B (c .before .if3 .left),
-  ne-eqb (c .before .before .before .before .args .number)
-      0x7D (c .if4 .left),
-)
+returns-4 c =
+    let a = c .before .before .before .before .args in
+    rw (
+      c .before .before .before .if1 .left,
+      c .before .before .if2 .taken,
+      ne-eqb (a .number) 0x7B (c .before .if3 .left),
+      ne-eqb
+          (a .number) 0x7D (c .if4 .left),
+    )
 
 cast-if5 : tie.Need-cast-if5
 cast-if5 c = search needs

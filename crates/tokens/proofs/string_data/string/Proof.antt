@@ -61,15 +61,14 @@ refusal-requires c κs = search needs
 
 returns : tie.Need-returns Inv-loop μ-loop
 returns c =
+    let after-ordinary = c .before .before .before .ordinary in
     let a = c .before .before .before .before .before .before .args in
     let l = c .before .before .before .before .loop in
     let o = openedAs (a .curly) (a .place) (a .prefix) (a .from) in
     let ran = behind (c .before .before .before) in
-    let none = stops limits (a .draft .now) (c .before .before .before .ordinary .result)
-    (string o (l .n + (c .before .before .before .ordinary .result - l .i)) (l .level) (l .odd))
-    (λ number after e.
-    let is = c .before .before .character-at .ensures ∙ e in
-    ⊎-elim (λ k. absurd (let z = rw is at k in omega arith)) (λ k. absurd (let z = rw is at k in omega arith)) (c .before .match .keys2)) in
+    let none = stops limits (a .draft .now) (after-ordinary .result) (string o (l .n + (after-ordinary .result - l .i)) (l .level) (l .odd))
+    (λ number after e. let is = c .before .before .character-at .ensures ∙ e in ⊎-elim (λ k. absurd (let z = rw is at k in omega arith))
+    (λ k. absurd (let z = rw is at k in omega arith)) (c .before .match .keys2)) in
     c .refusal .ensures ∙ (ap (refusalOf _) (c .before .before .character-at .ensures)
     ∙ (sym none ∙ (sym (ap first (ran .same o (l .level))) ∙ l .inv .0)))
 
@@ -144,6 +143,7 @@ loop-less c =
 loop-again : tie.Need-loop-again Inv-loop μ-loop
 unfolding openedAs
 loop-again c =
+    let after-encoded-length = c .before .before .before .encoded-length in
     let a = c .before .before .before .before .before .before .before .before .before .before .before .before .before .args in
     let l = c .before .before .before .before .before .before .before .before .before .before .before .loop in
     let o = openedAs (a .curly) (a .place) (a .prefix) (a .from) in
@@ -153,14 +153,10 @@ loop-again c =
     let at = c .before .before .before .before .before .before .before .before .before .before .ordinary .result in
     let back = sym (ap first (ran .same o (l .level))) ∙ l .inv .0 in
     let far = reaches (a .draft .now) at (g .0 .0) (g .0 .1 .0) is in
-    let size = c .before .before .before .encoded-length .ensures in
+    let size = after-encoded-length .ensures in
     let many = encoded-size (g .0 .0) in
     let more = sym (c .before .before .before .before .before .closes .ensures) ∙ c .before .before .before .before .if1 .left in
-    let fits : l .n + (at - l .i) + c .before .before .before .encoded-length .result ≤ 4096 = omega (
-      arith,
-      c .before .before .if2 .left,
-      ran .fits,
-    ) in
+    let fits : l .n + (at - l .i) + after-encoded-length .result ≤ 4096 = omega (arith, c .before .before .if2 .left, ran .fits) in
     let deep = level-bounds (o .sort) (l .level) (g .0 .0) (l .odd) (l .inv .3) more in (
       rw (c .before .level-after .ensures, c .odd-after .ensures, size)
           (sym (ap first (goes-on limits (a .draft .now) o at (g .0 .0) (g .0 .1 .0) (l .n + (at - l .i)) (l .level) (l .odd) is more
@@ -168,7 +164,8 @@ loop-again c =
       far .1,
       fits,
       rw (c .before .level-after .ensures) (deep .0),
-      rw (c .before .level-after .ensures) (omega (arith, deep .1, size, many .0, l .inv .4, ran .on)),
+      rw
+          (c .before .level-after .ensures) (omega (arith, deep .1, size, many .0, l .inv .4, ran .on)),
     )
 
 pub string-spec : {M : Type 1} → statement M
