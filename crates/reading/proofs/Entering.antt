@@ -2,7 +2,7 @@
 -- is no room for that group there is none for the two, and both are 18, so that the two are counted at once.
 use mathlib.Core.Path.{_≡_, refl}
 use mathlib.Core.Bool.{Bool, true, false, _&&_}
-use mathlib.Core.List.{List, _∷_}
+use mathlib.Core.List.{List}
 use Prim.Native.Nat.{ℕ, _+_, _-_, _<_, _≤_, _/_}
 use native.Mathlib.Omega.{arith}
 use lib.Dec.{leb, eqb}
@@ -13,7 +13,7 @@ use Rattle.chars.specs.Limits.{limits}
 use Rattle.chars.proofs.Cases.{either, both}
 use Rattle.reading.specs.Making.{Handled, fitted, handled, within-groups, adds, word, shortage}
 use Rattle.reading.specs.Judging.{bares, kindOf}
-use Rattle.reading.specs.Stepping.{Ready, Spare, openGroups, below, roomLeft, readerOf, agrees, enteredBy}
+use Rattle.reading.specs.Stepping.{Ready, Spare, openGroups, below, roomLeft, readerOf, agrees, enteredBy, enteredGroups}
 use Rattle.reading.specs.declared.step.State.{State}
 use Rattle.reading.specs.declared.step.Step.{Step}
 use Rattle.reading.specs.declared.step.Step.the-variants.{Stops}
@@ -23,10 +23,6 @@ use Rattle.reading.proofs.Deciding.{same-held}
 module _ (s : State) (list text groups : List ℕ) (place : ℕ) where
   abbrev gs : List ℕ
   gs = openGroups groups (s .depth)
-
-  -- the open groups with the one that the word brings
-  abbrev pub more : List ℕ
-  more = if s .opened then 1 ∷ gs else gs
 
   module _ (T : List ℕ) (regularly : s .metacommand ≡ false) where
     abbrev comes : Handled
@@ -42,8 +38,8 @@ module _ (s : State) (list text groups : List ℕ) (place : ℕ) where
 
     comes-is :
         (s .opened ≡ true → s .depth < 64)
-        → comes ≡ fitted (roomLeft s list text) (bares (if s .opened then 6 else 0) place) (adds (within-groups more) (word place T))
-    unfolding handled readerOf within-groups bares kindOf roomLeft fitted adds shortage
+        → comes ≡ fitted (roomLeft s list text) (bares (if s .opened then 6 else 0) place) (adds (within-groups (enteredGroups s gs)) (word place T))
+    unfolding handled readerOf within-groups bares kindOf roomLeft fitted adds shortage enteredGroups
     comes-is shallow =
         either (s .opened)
         (λ t.
@@ -53,7 +49,7 @@ module _ (s : State) (list text groups : List ℕ) (place : ℕ) where
         (λ t. rw (t, regularly))
 
     pub entered :
-        (s .opened ≡ true → s .depth < 64) → (pushed : List ℕ) → openGroups pushed (enteredBy s .depth) ≡ more
+        (s .opened ≡ true → s .depth < 64) → (pushed : List ℕ) → openGroups pushed (enteredBy s .depth) ≡ enteredGroups s gs
         → (r : Step) (list′ text′ : List ℕ)
         → agrees (fitted (roomLeft (enteredBy s) list text) (bares (if s .opened then 6 else 0) place)
         (adds (record { metacommand = false; opened = false; groups = openGroups pushed (enteredBy s .depth) }) (word place T))) r
@@ -66,9 +62,9 @@ module _ (s : State) (list text groups : List ℕ) (place : ℕ) where
 
   module _ (ready : Ready s list text groups place) where
     pub ready-entered :
-        (s .opened ≡ true → s .depth < 64) → (pushed : List ℕ) → length pushed ≡ 64 → openGroups pushed (enteredBy s .depth) ≡ more
+        (s .opened ≡ true → s .depth < 64) → (pushed : List ℕ) → length pushed ≡ 64 → openGroups pushed (enteredBy s .depth) ≡ enteredGroups s gs
         → Ready (enteredBy s) list text pushed place
-    unfolding enteredBy below
+    unfolding enteredBy enteredGroups below
     ready-entered shallow pushed long so =
         record {
           deep = either (s .opened) (λ t. let few = shallow t in rw t (omega arith)) (λ t. rw t (ready .deep));

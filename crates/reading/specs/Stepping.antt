@@ -139,6 +139,10 @@ enteredBy s =
       text = s .text;
     }
 
+-- and the groups that are open then
+unfoldable pub enteredGroups : State → (groups : List ℕ) → List ℕ
+enteredGroups s groups = if s .opened then 1 ∷ groups else groups
+
 -- a token as the code takes it apart: 4 stands for a refusal, and a part that it has not is 0
 unfoldable pub pieceOf : Token → Piece
 pieceOf (Simple place after length) =

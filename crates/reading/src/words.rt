@@ -2,7 +2,7 @@
 // stands in the draft as it is, and right behind `[` a begin group comes before it.
 ghost use mathlib.Core.Path.{_≡_};
 ghost use mathlib.Core.Bool.{true, false, _&&_};
-ghost use mathlib.Core.List.{List, [], _∷_};
+ghost use mathlib.Core.List.{List, []};
 ghost use Prim.Native.Nat.{ℕ, _<_, _≤_};
 ghost use lib.Dec.{leb};
 ghost use lib.ListN.{length, getD};
@@ -11,7 +11,7 @@ ghost use Rattle.chars.specs.Limits.{limits as base};
 ghost use Rattle.chars.specs.Stream.{streamAt, clean};
 ghost use Rattle.reading.specs.Making.{fitted, handled, adds, word as wordOf};
 ghost use Rattle.reading.specs.Judging.{bares, meaning, kinds-fine, single};
-ghost use Rattle.reading.specs.Stepping.{Contents, Ready, Spare, openGroups, roomLeft, readerOf, agrees, enteredBy};
+ghost use Rattle.reading.specs.Stepping.{Contents, Ready, Spare, openGroups, roomLeft, readerOf, agrees, enteredBy, enteredGroups};
 use crate::entities::cut_from;
 use crate::entities::cut_length;
 use crate::entities::one;
@@ -134,8 +134,7 @@ fn brings(opened: bool) -> u32
 fn enter(groups: &mut [u32], s: State) -> State
     requires { ⌜ (s .opened ≡ true → s .depth < 64) × (length (now groups) ≡ 64) ⌝ }
     ensures { λ r. ⌜ (r ≡ enteredBy s)
-        × (openGroups (now (groups .exit)) (r .depth) ≡ (if s .opened then 1 ∷ openGroups (now (groups .entry)) (s .depth) else openGroups
-        (now (groups .entry)) (s .depth))) ⌝ }
+        × (openGroups (now (groups .exit)) (r .depth) ≡ enteredGroups s (openGroups (now (groups .entry)) (s .depth))) ⌝ }
 {
     let opened = s.opened;
     let depth = s.depth;

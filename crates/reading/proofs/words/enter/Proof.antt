@@ -3,12 +3,12 @@ use mathlib.Core.Path.{refl}
 use native.Mathlib.Omega.{arith}
 use borrow.Author.Needs.{needs}
 use borrow.Author.Tests.{not-true, not-false}
-use Rattle.reading.specs.Stepping.{enteredBy}
+use Rattle.reading.specs.Stepping.{enteredBy, enteredGroups}
 use Rattle.reading.proofs.words.enter.Statement.{statement}
 use Rattle.reading.proofs.words.enter.Tie as tie
 
 returns : tie.Need-returns
-unfolding enteredBy
+unfolding enteredBy enteredGroups
 returns c = rw (not-true (c .before .before .args .s .opened) (c .if1 .taken)) (refl, refl)
 
 push-requires : tie.Need-push-requires
@@ -27,7 +27,7 @@ same-length : tie.Need-same-length
 same-length c = search needs
 
 returns-2 : tie.Need-returns-2
-unfolding enteredBy
+unfolding enteredBy enteredGroups
 returns-2 c = rw (not-false (c .before .before .before .before .before .before .args .s .opened)
     (c .before .before .before .before .if1 .left)) (refl, c .before .before .push .ensures)
 
