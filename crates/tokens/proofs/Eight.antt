@@ -3,15 +3,15 @@
 -- left is a question about one byte, and antt computes the answer for each. Assumes nothing.
 use mathlib.Core.Path.{_≡_, refl, sym, _∙_, ap, ap₂}
 use mathlib.Core.Bool.{Bool, true}
-use mathlib.Core.List.{List, [], _∷_}
+use mathlib.Core.List.{List, [], _∷_, _++_}
 use Prim.Native.Nat.{ℕ, zero, suc, _+_, _-_, _*_, _/_, _%_, _^_, _<_, _≤_}
 use native.Mathlib.Omega.{arith}
-use native.Mathlib.Nat.{mod-lt, div-add-mod', pow-suc, add-zero, add-suc}
+use native.Mathlib.Nat.{mod-lt, mod-eq-of-lt, div-add-mod', pow-suc, zero-add, suc-add}
 use lib.Arith.{lt-one, digits-div, digits-mod}
 use lib.Bits.{bitAnd, bitXor, and-block, xor-block, and-lt, xor-lt}
 use lib.Dec.{ltb, leb, eqb}
 use lib.ListN.{length, getD, take, drop}
-use lib.Seq.{drop-cons}
+use lib.Seq.{drop-cons, take-add, drop-drop}
 use borrow.Author.Tests.{ltb-true, leb-true, eq-eqb}
 use Rattle.chars.specs.Choice.{within}
 use Rattle.tokens.specs.Runs.{classOf, run, bytesOf}
@@ -164,26 +164,28 @@ pub raised : (w : ℕ) → Made 0x80 w (λ b. b) w → Made 0x80 w (λ b. b + 0x
 unfolding bytesOf
 raised w p = made-sum p (always p 0x60 (omega arith)) refl
 
+-- the bytes of two numbers, the second as high as the first has bytes
+both-bytes : (m n x y : ℕ) → x < 256 ^ m → bytesOf (m + n) (x + y * 256 ^ m) ≡ bytesOf m x ++ bytesOf n y
+unfolding bytesOf
+both-bytes zero n x y h =
+    let none = lt-one h in
+    let same : x + y * 1 ≡ y = omega arith in
+    rw (zero-add n, same)
+both-bytes (suc m) n x y h =
+    let l = rw (pow-suc 256 m) at h in
+    let q = x / 256 + y * 256 ^ m in
+    let split : x + y * 256 ^ suc m ≡ q * 256 + x % 256 = omega (arith, ap (λ k. y * k) (pow-suc 256 m), div-add-mod' x 256) in
+    let low : x % 256 < 256 = mod-lt x (omega arith) in
+    rw (suc-add m n, split, digits-mod q low, digits-div q low, both-bytes m n (x / 256) y (omega arith))
+
 module _ (draft : List ℕ) (at : ℕ) where
-  -- `n` bytes of a draft, from `i` bytes behind `at` on
-  abbrev pub span : (n i : ℕ) → List ℕ
-  span zero i = []
-  span (suc n) i = getD draft (at + i) 0 ∷ span n (suc i)
+  pub one-byte : (b : ℕ) → b ≡ getD draft at 0 → b < 256 → at < length draft → bytesOf 1 b ≡ take 1 (drop at draft)
+  unfolding bytesOf
+  one-byte b e l h = rw (drop-cons draft at 0 h, ← e, mod-eq-of-lt l)
 
-  is-span : (n i : ℕ) → at + i + n ≤ length draft → take n (drop (at + i) draft) ≡ span n i
-  is-span zero i h = refl
-  is-span (suc n) i h =
-      rw (drop-cons draft (at + i) 0 (omega arith), ← add-suc at i, is-span n (suc i) (omega arith))
-
-  module _ (known : (i : ℕ) → getD draft i 0 < 256) where
-    span-bytes : (n i : ℕ) → Each (λ b. b < 256) (span n i)
-    span-bytes zero i = tt
-    span-bytes (suc n) i = (known (at + i), span-bytes n (suc i))
-
-    -- the number of eight bytes of a draft
-    pub eight-bytes :
-        (r : ℕ) → at + 8 ≤ length draft → r ≡ number (λ b. b) (getD draft at 0 ∷ span 7 1)
-        → bytesOf 8 r ≡ take 8 (drop at draft)
-    eight-bytes r h e =
-        let t = rw (add-zero at) at (is-span 8 0 (omega arith)) in
-        ap (bytesOf 8) e ∙ (its-bytes (getD draft at 0 ∷ span 7 1) (known at, span-bytes 7 1) ∙ sym t)
+  -- a number of `m` bytes of a draft, and behind it one of the next `n`
+  pub next-bytes :
+      (m n x y : ℕ) → x < 256 ^ m → bytesOf m x ≡ take m (drop at draft) → bytesOf n y ≡ take n (drop (at + m) draft)
+      → bytesOf (m + n) (x + y * 256 ^ m) ≡ take (m + n) (drop at draft)
+  next-bytes m n x y h e f =
+      both-bytes m n x y h ∙ rw (e, f, take-add m n (drop at draft), drop-drop m at draft)

@@ -252,18 +252,28 @@ fn widened(b: u8) -> u64
     b as u64
 }
 
-// The eight bytes from `at` on as one number, the first of them lowest.
+// The two bytes from `at` on as one number, the first of them lowest.
+fn two(draft: &[u8], at: usize) -> u64
+    requires { ⌜ at + 2 ≤ length (now draft) ⌝ }
+    ensures { λ r. ⌜ (bytesOf 2 r ≡ take 2 (drop at (now (draft .entry)))) × (r < 0x10000) ⌝ }
+{
+    widened(draft[at]) + widened(draft[at + 1]) * 0x100
+}
+
+// Four, likewise.
+fn four(draft: &[u8], at: usize) -> u64
+    requires { ⌜ at + 4 ≤ length (now draft) ⌝ }
+    ensures { λ r. ⌜ (bytesOf 4 r ≡ take 4 (drop at (now (draft .entry)))) × (r < 0x100000000) ⌝ }
+{
+    two(draft, at) + two(draft, at + 2) * 0x10000
+}
+
+// Eight, likewise.
 fn eight(draft: &[u8], at: usize) -> u64
     requires { ⌜ at + 8 ≤ length (now draft) ⌝ }
     ensures { λ r. ⌜ bytesOf 8 r ≡ take 8 (drop at (now (draft .entry))) ⌝ }
 {
-    let a = widened(draft[at]) + widened(draft[at + 1]) * 0x100;
-    let b = widened(draft[at + 2]) + widened(draft[at + 3]) * 0x100;
-    let c = widened(draft[at + 4]) + widened(draft[at + 5]) * 0x100;
-    let d = widened(draft[at + 6]) + widened(draft[at + 7]) * 0x100;
-    let e = a + b * 0x10000;
-    let f = c + d * 0x10000;
-    e + f * 0x100000000
+    four(draft, at) + four(draft, at + 4) * 0x100000000
 }
 
 // Whether each of the eight bytes of a number is from 20 to 7F hex: classes 1 to 8. None has its highest bit, so that no sum with 60 is
