@@ -38,7 +38,9 @@ module _ (s : State) (list text groups : List ℕ) (place : ℕ) where
 
     comes-is :
         (s .opened ≡ true → s .depth < 64)
-        → comes ≡ fitted (roomLeft s list text) (bares (if s .opened then 6 else 0) place) (adds (within-groups (enteredGroups s gs)) (word place T))
+        → comes
+        ≡ fitted (roomLeft s list text) (bares (if s .opened then 6 else 0) place) (adds (within-groups (enteredGroups s gs))
+        (word place T))
     unfolding handled readerOf within-groups bares kindOf roomLeft fitted adds shortage enteredGroups
     comes-is shallow =
         either (s .opened)
@@ -62,7 +64,8 @@ module _ (s : State) (list text groups : List ℕ) (place : ℕ) where
 
   module _ (ready : Ready s list text groups place) where
     pub ready-entered :
-        (s .opened ≡ true → s .depth < 64) → (pushed : List ℕ) → length pushed ≡ 64 → openGroups pushed (enteredBy s .depth) ≡ enteredGroups s gs
+        (s .opened ≡ true → s .depth < 64) → (pushed : List ℕ) → length pushed ≡ 64
+        → openGroups pushed (enteredBy s .depth) ≡ enteredGroups s gs
         → Ready (enteredBy s) list text pushed place
     unfolding enteredBy enteredGroups below
     ready-entered shallow pushed long so =

@@ -31,6 +31,17 @@ use Rattle.reading.specs.declared.round.Round.the-variants.{On, Over}
 use Rattle.reading.proofs.OpenGroups.{higher}
 use Rattle.reading.proofs.Listing.{written-none, written-more, text-none, text-more, sizes-append}
 
+-- what reading comes to at a token: it is handled, and then the tokens behind it are read, or it was the last
+abbrev Comes : (draft : List ℕ) → Piece → Tokens → Type 0
+Comes draft f ts =
+    (room : Room) (r : Reader)
+    → entities limits draft room r ts
+    ≡ taken (f .place)
+    (handled limits room r (closingAs (f .sort) (clean (f .prefix) (streamAt draft (f .place)))) (f .place)
+    (λ q. judgedAs (f .sort) q (f .place) (clean (f .prefix) (streamAt draft (f .place))) (clean (f .bytes) (streamAt draft (f .from)))))
+    (λ room r. if eqb (f .sort) 3 then success (f .after) else entities limits draft room r
+    (tokens limits between (streamAt draft (f .after))))
+
 -- a token that is no refusal: where it stands, what it has, and what reading makes of it
 pub record Taken (draft : List ℕ) (at : ℕ) (f : Piece) (ts : Tokens) : Type 0 where
   pub sorts : sorted (f .sort) (f .prefix) (f .bytes)
@@ -42,14 +53,12 @@ pub record Taken (draft : List ℕ) (at : ℕ) (f : Piece) (ts : Tokens) : Type 
   pub opened : f .from < f .after
   pub as-is : unchanged draft (f .from) (f .bytes) (f .after - f .from - 1)
   pub contents : Contents draft (f .place) (f .prefix) (f .from) (f .bytes)
-  pub comes :
-      (room : Room) (r : Reader)
-      → entities limits draft room r ts
-      ≡ taken (f .place)
-      (handled limits room r (closingAs (f .sort) (clean (f .prefix) (streamAt draft (f .place)))) (f .place)
-      (λ q. judgedAs (f .sort) q (f .place) (clean (f .prefix) (streamAt draft (f .place))) (clean (f .bytes) (streamAt draft (f .from)))))
-      (λ room r. if eqb (f .sort) 3 then success (f .after) else entities limits draft room r
-      (tokens limits between (streamAt draft (f .after))))
+  pub comes : Comes draft f ts
+
+-- a string as the code takes it apart
+abbrev string-piece : Whole → (sort : ℕ) → Piece
+string-piece w sort =
+    record { sort = sort; place = w .place; after = w .after; prefix = w .prefix; from = w .from; bytes = w .length; number = 0 }
 
 module _ (draft : List ℕ) (at : ℕ) where
   pub token-limit : 1 ≤ limits .token
@@ -66,6 +75,24 @@ module _ (draft : List ℕ) (at : ℕ) where
         string-long = long;
         own =
             so .own;
+      }
+
+  -- a string of either sort
+  stringed :
+      (w : Whole) (sort : ℕ) (ts : Tokens) → Sound limits token-limit draft at w → sorted sort (w .prefix) (w .length)
+      → Comes draft (string-piece w sort) ts → Taken draft at (string-piece w sort) ts
+  stringed w sort ts so sorts comes =
+      record {
+        sorts = sorts;
+        behind = so .behind;
+        on = so .on;
+        there = so .there;
+        short = omega (arith, so .short);
+        brief = so .brief;
+        opened = so .opened;
+        as-is = λ h. so .string-raw (omega (arith, so .opened));
+        contents = contains w (w .from) (w .length) so (so .string-long);
+        comes = comes;
       }
 
   whole :
@@ -86,34 +113,8 @@ module _ (draft : List ℕ) (at : ℕ) where
         contents = contains w 0 0 so (ap length (clean-zero (streamAt draft 0)));
         comes = λ room r. refl;
       })
-  whole w quoted e so =
-      rw e
-      (record {
-        sorts = (λ z. absurd (omega arith), λ a b. absurd (a refl));
-        behind = so .behind;
-        on = so .on;
-        there = so .there;
-        short = omega (arith, so .short);
-        brief = so .brief;
-        opened = so .opened;
-        as-is = λ h. so .string-raw (omega (arith, so .opened));
-        contents = contains w (w .from) (w .length) so (so .string-long);
-        comes = λ room r. refl;
-      })
-  whole w curly e so =
-      rw e
-      (record {
-        sorts = (λ z. absurd (omega arith), λ a b. absurd (b refl));
-        behind = so .behind;
-        on = so .on;
-        there = so .there;
-        short = omega (arith, so .short);
-        brief = so .brief;
-        opened = so .opened;
-        as-is = λ h. so .string-raw (omega (arith, so .opened));
-        contents = contains w (w .from) (w .length) so (so .string-long);
-        comes = λ room r. refl;
-      })
+  whole w quoted e so = rw e (stringed w 1 _ so (λ z. absurd (omega arith), λ a b. absurd (a refl)) (λ room r. refl))
+  whole w curly e so = rw e (stringed w 2 _ so (λ z. absurd (omega arith), λ a b. absurd (b refl)) (λ room r. refl))
 
   finally : (place after : ℕ) → at ≤ place → place < after → after ≤ length draft
       → Taken draft at (pieceOf (first (last place after))) (last place after)
