@@ -5,6 +5,7 @@ ghost use Rattle.chars.specs.Choice.{within};
 ghost use Prim.Native.Nat.{_+_, _-_, _≤_, _<_, min};
 ghost use lib.ListN.{length, take, drop};
 ghost use Rattle.tokens.specs.Runs.{classOf, run as runOf, bytesOf};
+use crate::number::eight;
 
 // The class of any byte (specs/Runs.antt, classOf); `_` is nul, CR and all that is not US-ASCII. No arm lists two neighbours, since only
 // then the compiler makes one table of all the arms, and reads it where it lies.
@@ -243,37 +244,6 @@ fn outside(b: u8, low: u8, high: u8) -> bool
         return true;
     }
     high < k
-}
-
-// A byte as a number of eight bytes.
-fn widened(b: u8) -> u64
-    ensures { λ r. ⌜ (r ≡ b) × (r < 256) ⌝ }
-{
-    b as u64
-}
-
-// The two bytes from `at` on as one number, the first of them lowest.
-fn two(draft: &[u8], at: usize) -> u64
-    requires { ⌜ at + 2 ≤ length (now draft) ⌝ }
-    ensures { λ r. ⌜ (bytesOf 2 r ≡ take 2 (drop at (now (draft .entry)))) × (r < 0x10000) ⌝ }
-{
-    widened(draft[at]) + widened(draft[at + 1]) * 0x100
-}
-
-// Four, likewise.
-fn four(draft: &[u8], at: usize) -> u64
-    requires { ⌜ at + 4 ≤ length (now draft) ⌝ }
-    ensures { λ r. ⌜ (bytesOf 4 r ≡ take 4 (drop at (now (draft .entry)))) × (r < 0x100000000) ⌝ }
-{
-    two(draft, at) + two(draft, at + 2) * 0x10000
-}
-
-// Eight, likewise.
-fn eight(draft: &[u8], at: usize) -> u64
-    requires { ⌜ at + 8 ≤ length (now draft) ⌝ }
-    ensures { λ r. ⌜ bytesOf 8 r ≡ take 8 (drop at (now (draft .entry))) ⌝ }
-{
-    four(draft, at) + four(draft, at + 4) * 0x100000000
 }
 
 // Whether each of the eight bytes of a number is from 20 to 7F hex: classes 1 to 8. None has its highest bit, so that no sum with 60 is

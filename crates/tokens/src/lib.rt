@@ -10,6 +10,7 @@ ghost use Rattle.tokens.specs.Runs.{classOf, run as runOf, pastAll, refu
 
 mod byte;
 pub mod copier;
+pub mod number;
 mod sequence;
 mod space;
 mod string_data;

@@ -1,10 +1,10 @@
--- `tokens::byte::two` meets its contract: a byte is one of the number's, and so is the one behind it. Assumes nothing.
+-- `tokens::number::two` meets its contract: a byte is one of the number's, and so is the one behind it. Assumes nothing.
 use Prim.Native.Nat.{_+_}
 use native.Mathlib.Omega.{arith}
 use borrow.Author.Needs.{needs}
 use Rattle.tokens.proofs.Eight.{one-byte, next-bytes}
-use Rattle.tokens.proofs.byte.two.Statement.{statement}
-use Rattle.tokens.proofs.byte.two.Tie as tie
+use Rattle.tokens.proofs.number.two.Statement.{statement}
+use Rattle.tokens.proofs.number.two.Tie as tie
 
 shared-slice-read-widened : tie.Need-shared-slice-read-widened
 shared-slice-read-widened c = search needs

@@ -1,10 +1,10 @@
--- `tokens::byte::four` meets its contract: the number of the first half of its bytes, and behind it that of the other half. Assumes
+-- `tokens::number::four` meets its contract: the number of the first half of its bytes, and behind it that of the other half. Assumes
 -- nothing.
 use native.Mathlib.Omega.{arith}
 use borrow.Author.Needs.{needs}
 use Rattle.tokens.proofs.Eight.{next-bytes}
-use Rattle.tokens.proofs.byte.four.Statement.{statement}
-use Rattle.tokens.proofs.byte.four.Tie as tie
+use Rattle.tokens.proofs.number.four.Statement.{statement}
+use Rattle.tokens.proofs.number.four.Tie as tie
 
 two-requires : tie.Need-two-requires
 two-requires c κs = search needs

@@ -1,10 +1,10 @@
--- `tokens::byte::eight` meets its contract: the number of the first half of its bytes, and behind it that of the other half. Assumes
+-- `tokens::number::eight` meets its contract: the number of the first half of its bytes, and behind it that of the other half. Assumes
 -- nothing.
 use native.Mathlib.Omega.{arith}
 use borrow.Author.Needs.{needs}
 use Rattle.tokens.proofs.Eight.{next-bytes}
-use Rattle.tokens.proofs.byte.eight.Statement.{statement}
-use Rattle.tokens.proofs.byte.eight.Tie as tie
+use Rattle.tokens.proofs.number.eight.Statement.{statement}
+use Rattle.tokens.proofs.number.eight.Tie as tie
 
 four-requires : tie.Need-four-requires
 four-requires c κs = search needs
