@@ -18,6 +18,7 @@ pub mod Called
 pub mod Unique
 pub mod Closed
 pub mod Handled
+pub mod Numbers
 pub mod Places
 pub mod Through
 pub mod Within
