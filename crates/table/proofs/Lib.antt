@@ -1,0 +1,9 @@
+pub mod Computes
+pub mod Below
+pub mod Fields
+pub mod Rows
+pub mod Eight
+pub mod Sound
+pub mod Last
+pub mod Finding
+pub mod Entering
