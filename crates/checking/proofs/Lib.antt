@@ -1,2 +1,6 @@
 pub mod Computes
 pub mod Drafts
+pub mod Stages
+pub mod Unique
+pub mod Called
+pub mod Alike

@@ -1,4 +1,4 @@
--- Checking: the rules of cells over kinds alone, and the call that reads first (document 01, "Cells and operations" and "Order").
+-- Checking: the call that judges the table, reads, and then checks what was read (document 01, "Order").
 use Prim.Native.Nat.{ℕ}
 use mathlib.Core.Bool.{Bool, true, false}
 use mathlib.Core.List.{List}
@@ -9,39 +9,9 @@ use Rattle.chars.specs.Choice.{if_then_else_}
 use Rattle.reading.specs.Entity.{Entity}
 use Rattle.reading.specs.Making.{Room}
 use Rattle.reading.specs.Reading.{Read, Reading, readWith, roomOf, answered}
-use Rattle.checking.specs.Table.{Operation, operations}
-use Rattle.checking.specs.Cells.{Amount, amount, none-by, Cell, Ended, through, empty}
-
--- the check keeps a kind for each cell; a count also serves as a number
-pub data Checked : Type 0 where
-  of : (kind : ℕ) → Checked
-  count : ℕ → Checked
-
-unfoldable pub kindOf : Checked → ℕ
-kindOf (of kind) = kind
-kindOf (count n) = 0
-
--- a count says how many cells an array has; a plain number does not (24)
-unfoldable pub wantedOf : Checked → Amount
-wantedOf (of kind) = none-by 24
-wantedOf (count n) = amount n
-
--- A literal pushes its kind, an array a count, an operation the kinds it gives. In a name a count becomes a plain number.
-unfoldable pub kinds : Cell Checked
-kinds =
-    record {
-      kind = kindOf;
-      literal = λ step kind. of kind;
-      counted = count;
-      kept = λ c. of (kindOf c);
-      result = λ step place kind. of kind;
-      wanted = wantedOf;
-      bounded = true;
-    }
-
--- the check of a list of entities with their text
-unfoldable pub check : Limits → List Operation → List Entity → Ended
-check L os es = through L kinds os 0 empty es
+use Rattle.table.specs.Table.{Operation, operations}
+use Rattle.cells.specs.Cells.{Ended}
+use Rattle.cells.specs.Kinds.{check}
 
 -- The answer once reading is done: a refusal of reading stands; else the check's own, and the buffers hold the whole reading.
 unfoldable pub checked : Ended → Reading → Reading

@@ -4,8 +4,8 @@ use mathlib.Core.Bool.{Bool}
 use mathlib.Core.List.{List}
 use Rattle.chars.specs.Limits.{Limits}
 use Rattle.reading.specs.Entity.{Entity}
-use Rattle.checking.specs.Table.{Operation}
-use Rattle.checking.specs.Cells.{Amount, amount, none-by, Cell, Ended, through, empty}
+use Rattle.table.specs.Table.{Operation}
+use Rattle.cells.specs.Cells.{Amount, amount, none-by, Cell, Ended, through, empty}
 
 -- a whole number: `minus n` is the negative number -(n + 1)
 pub data Whole : Type 0 where
