@@ -1,8 +1,8 @@
-/* Vogieburn: a proved reader of Shastina texts.
+/* Vogieburn: a proved reader of Shastina texts, and a check of them against a table of operations.
  *
  * The library has no state. It allocates nothing, keeps no pointer past a call, writes to no file and calls nothing of the
- * host's, so any number of threads may call it at once, each with a list and a text buffer of its own. The same draft and the
- * same room always give the same answer.
+ * host's, so any number of threads may call it at once, each with a list and a text buffer of its own. The same draft, the same
+ * room and the same table always give the same answer.
  *
  *     vogieburn_entity list[2000];
  *     uint8_t text[16384];
@@ -28,8 +28,20 @@ extern "C" {
 /* A draft of more bytes is refused with VOGIEBURN_DRAFT_TOO_LONG. */
 #define VOGIEBURN_DRAFT_LIMIT 16384
 
-/* How many 32-bit numbers of the list an entity takes. */
+/* How many operations a table holds at most, how many bytes the name of one has, how many items one takes, and how many kinds it
+ * gives. */
+#define VOGIEBURN_OPERATIONS_LIMIT 256
+#define VOGIEBURN_OPERATION_NAME_LIMIT 255
+#define VOGIEBURN_TAKES_LIMIT 8
+#define VOGIEBURN_GIVES_LIMIT 8
+
+/* How many cells, hidden ones counted, and how many names there are at most during a check. */
+#define VOGIEBURN_CELLS_LIMIT 1024
+#define VOGIEBURN_NAMES_LIMIT 128
+
+/* How many 32-bit numbers of the list an entity takes, and how many bytes of the table an operation. */
 #define VOGIEBURN_NUMBERS 6
+#define VOGIEBURN_OPERATION_BYTES 274
 
 /* What an entity is. Its text is a string's prefix, a name without its sign, or a whole token, as said here; the kinds of which
  * nothing is said have none. Only strings have data, and only an array a count. */
@@ -53,8 +65,16 @@ enum vogieburn_kind {
     VOGIEBURN_END = 17                /* |; */
 };
 
+/* What a cell is, as an operation of the table says it. The kinds from VOGIEBURN_CELL_HOUSE to VOGIEBURN_CELL_LAST are the house's
+ * own. */
+enum vogieburn_cell { VOGIEBURN_CELL_NUMBER = 0, VOGIEBURN_CELL_STRING = 1, VOGIEBURN_CELL_HOUSE = 2, VOGIEBURN_CELL_LAST = 15 };
+
+/* A taken item that is no single cell: an array's count, and below it as many cells of the kind. */
+#define VOGIEBURN_ARRAY_OF(kind) (VOGIEBURN_CELL_LAST + 1 + (kind))
+
 /* Why a draft was refused, and which byte of it answer.place then names. A place is a byte's index in the draft as it was handed
- * over, counted from 0; a byte order mark counts three. "The token" is the first byte of the token being handled. */
+ * over, counted from 0; a byte order mark counts three. "The token" is the first byte of the token being handled, and "the
+ * entity" that of the token which brought the entity being checked. Only a check gives those from VOGIEBURN_TABLE_UNSOUND on. */
 enum vogieburn_refusal {
     VOGIEBURN_DRAFT_TOO_LONG = 1,      /* over 16,384 bytes; place 0 */
     VOGIEBURN_MALFORMED = 2,           /* not UTF-8; the first byte of the sequence */
@@ -74,7 +94,18 @@ enum vogieburn_refusal {
     VOGIEBURN_STRAY_BRACKET = 16,      /* ] with no array to close here; the token */
     VOGIEBURN_TOO_MANY_GROUPS = 17,    /* over 64 groups open, those of elements counted; the token */
     VOGIEBURN_LIST_FULL = 18,          /* the token's entities do not fit the list; the token */
-    VOGIEBURN_TEXT_FULL = 19           /* their text and data do not fit the text buffer; the token */
+    VOGIEBURN_TEXT_FULL = 19,          /* their text and data do not fit the text buffer; the token */
+    VOGIEBURN_TABLE_UNSOUND = 20,      /* the table breaks its rules; place 0 */
+    VOGIEBURN_UNKNOWN_OPERATION = 21,  /* the table has no operation of this name; the entity */
+    VOGIEBURN_TOO_FEW_CELLS = 22,      /* fewer cells in sight than are taken; the entity */
+    VOGIEBURN_WRONG_KIND = 23,         /* a cell of another kind than is taken; the entity */
+    VOGIEBURN_NO_ARRAY = 24,           /* an array is wanted, and on top is a plain number; the entity */
+    VOGIEBURN_NAME_DEFINED = 25,       /* ? or @ with a name defined before; the entity */
+    VOGIEBURN_NAME_NOT_DEFINED = 26,   /* = or : with a name not defined; the entity */
+    VOGIEBURN_PUT_TO_CONSTANT = 27,    /* : with a name defined by @; the entity */
+    VOGIEBURN_NOT_ONE_CELL = 28,       /* a group, or an array's element, ends without exactly one cell in sight; the entity */
+    VOGIEBURN_TOO_MANY_CELLS = 29,     /* over 1,024 cells, hidden ones counted; the entity */
+    VOGIEBURN_TOO_MANY_NAMES = 30      /* over 128 names; the entity */
 };
 
 /* One entity of the list: six 32-bit numbers, with nothing between them. */
@@ -94,9 +125,32 @@ typedef struct {
     uint64_t entities; /* how many entities the list holds */
     uint64_t text;     /* how many bytes the text buffer holds */
     uint64_t consumed; /* of success: the index of the byte after |; */
-    uint64_t steps;    /* 0 after a reading */
-    uint64_t cells;    /* 0 after a reading */
+    uint64_t steps;    /* of a check, once the draft is read: how many entities it handled; the refused one is not counted */
+    uint64_t cells;    /* of a check's success: how many cells remain */
 } vogieburn_answer;
+
+/* One operation of a table, byte for byte; vogieburn_operation_make fills it. Bytes behind the name, behind the items and behind
+ * the kinds are 0. An array of at most 256 of these, each with another name, is a sound table. */
+typedef struct {
+    uint8_t name_len;                             /* 1 to 255 */
+    uint8_t name[VOGIEBURN_OPERATION_NAME_LIMIT]; /* any bytes */
+    uint8_t takes_len;                            /* 0 to 8 */
+    uint8_t takes[VOGIEBURN_TAKES_LIMIT];         /* the items, top first: an enum vogieburn_cell, or VOGIEBURN_ARRAY_OF one */
+    uint8_t gives_len;                            /* 0 to 8 */
+    uint8_t gives[VOGIEBURN_GIVES_LIMIT];         /* the kinds, the last left on top: an enum vogieburn_cell each */
+} vogieburn_operation;
+
+#ifdef __cplusplus
+#define VOGIEBURN_ASSERT static_assert
+#else
+#define VOGIEBURN_ASSERT _Static_assert
+#endif
+
+VOGIEBURN_ASSERT(sizeof(vogieburn_entity) == VOGIEBURN_NUMBERS * sizeof(uint32_t), "an entity is six numbers");
+VOGIEBURN_ASSERT(sizeof(vogieburn_answer) == 7 * sizeof(uint64_t), "an answer is seven numbers");
+VOGIEBURN_ASSERT(sizeof(vogieburn_operation) == VOGIEBURN_OPERATION_BYTES, "an operation is 274 bytes");
+
+#undef VOGIEBURN_ASSERT
 
 /* Reads a draft into a list of entities and a buffer of clean text, both lent by the caller.
  *
@@ -123,20 +177,99 @@ typedef struct {
 vogieburn_answer vogieburn_read(const uint8_t *draft, size_t draft_len, uint32_t *list, size_t list_len, uint8_t *text,
                                 size_t text_len);
 
-/* The call, with an address at hand for each length of 0. Nothing is read or written there. */
+/* Reads a draft as vogieburn_read does, and checks what was read against a table of operations: that its operations are known,
+ * that each finds the cells which it takes, that names are defined once and before they are used, and that each group and each
+ * element of an array leaves exactly one cell.
+ *
+ * draft, list, text  as for vogieburn_read.
+ * table, table_len   the table's bytes, and how many there are: 274 to an operation, as vogieburn_operation lays them out, at most
+ *                    256 operations in any order, no two with the same name. They are not changed. Any bytes and any length
+ *                    get an answer: what is no sound table is refused. An empty table is sound, and knows no operation.
+ *
+ *     vogieburn_operation table[1];
+ *     const uint8_t takes[] = {VOGIEBURN_ARRAY_OF(VOGIEBURN_CELL_NUMBER)};
+ *     if (!vogieburn_operation_make(&table[0], "bind", 4, takes, sizeof takes, NULL, 0))
+ *         return;
+ *     vogieburn_answer answer = vogieburn_check(draft, draft_len, (uint32_t *)list, 2000 * VOGIEBURN_NUMBERS,
+ *                                               text, sizeof text, (const uint8_t *)table, sizeof table);
+ *
+ * The table is judged first, then the draft is read, and only when it was read to its end are its entities checked, one after
+ * the other. So, of all that is wrong, the answer tells
+ * - VOGIEBURN_TABLE_UNSOUND first, and then nothing is written;
+ * - then VOGIEBURN_DRAFT_TOO_LONG, with nothing written, and the other refusals of reading, with the answer and the buffers that
+ *   vogieburn_read leaves;
+ * - then the first refusal from VOGIEBURN_UNKNOWN_OPERATION on. The buffers hold the whole reading, as they do after success, and
+ *   answer.steps tells how many entities were handled: the refused one is the next of the list.
+ * Cells may remain at the end, and answer.cells tells how many. Past what is held every number and byte is as it was.
+ *
+ * The caller sees to the same as for vogieburn_read, and the table is lent as the draft is: the two are only read and may overlap
+ * each other, but neither may overlap the list or the text buffer. */
+vogieburn_answer vogieburn_check(const uint8_t *draft, size_t draft_len, uint32_t *list, size_t list_len, uint8_t *text,
+                                 size_t text_len, const uint8_t *table, size_t table_len);
+
+/* An address for each length of 0. Nothing is read or written there. */
+static inline void *vogieburn_nowhere(void)
+{
+    static uint32_t nowhere;
+
+    return &nowhere;
+}
+
+/* A lent pointer, which may be null where its length is 0, and its length. */
+#define VOGIEBURN_LENT(type, lent) lent##_len > 0 ? lent : (type *)vogieburn_nowhere(), lent##_len
+
+/* The calls, with null pointers for lengths of 0. */
 static inline vogieburn_answer vogieburn_read_lent(const uint8_t *draft, size_t draft_len, uint32_t *list, size_t list_len,
                                                    uint8_t *text, size_t text_len)
 {
-    const uint8_t no_draft = 0;
-    uint32_t no_list = 0;
-    uint8_t no_text = 0;
-
-    return vogieburn_read(draft_len > 0 ? draft : &no_draft, draft_len, list_len > 0 ? list : &no_list, list_len,
-                          text_len > 0 ? text : &no_text, text_len);
+    return vogieburn_read(VOGIEBURN_LENT(const uint8_t, draft), VOGIEBURN_LENT(uint32_t, list), VOGIEBURN_LENT(uint8_t, text));
 }
+
+static inline vogieburn_answer vogieburn_check_lent(const uint8_t *draft, size_t draft_len, uint32_t *list, size_t list_len,
+                                                    uint8_t *text, size_t text_len, const uint8_t *table, size_t table_len)
+{
+    return vogieburn_check(VOGIEBURN_LENT(const uint8_t, draft), VOGIEBURN_LENT(uint32_t, list), VOGIEBURN_LENT(uint8_t, text),
+                           VOGIEBURN_LENT(const uint8_t, table));
+}
+
+#undef VOGIEBURN_LENT
 
 #define vogieburn_read(draft, draft_len, list, list_len, text, text_len) \
     vogieburn_read_lent(draft, draft_len, list, list_len, text, text_len)
+
+#define vogieburn_check(draft, draft_len, list, list_len, text, text_len, table, table_len) \
+    vogieburn_check_lent(draft, draft_len, list, list_len, text, text_len, table, table_len)
+
+/* Fills one part of an operation: bytes, and zeros behind them. Answers whether they fit, each below `bound`. */
+static inline int vogieburn_operation_part(uint8_t *to, size_t room, unsigned bound, const uint8_t *from, size_t from_len)
+{
+    for (size_t i = 0; i < room; i++) {
+        to[i] = (uint8_t)(i < from_len ? from[i] : 0);
+        if (to[i] >= bound)
+            return 0;
+    }
+    return from_len <= room;
+}
+
+/* Fills one operation of a table: its name, of 1 to 255 bytes; at most 8 items that it takes, top first, each 0 to 31; and at most 8
+ * kinds that it gives, the last left on top, each 0 to 15. Answers 1; or 0, and the operation is as it was, where they break these
+ * rules. Where a length is 0 its pointer may be null. That no other operation of the table has the name is for the check to see. */
+static inline int vogieburn_operation_make(vogieburn_operation *operation, const void *name, size_t name_len, const uint8_t *takes,
+                                           size_t takes_len, const uint8_t *gives, size_t gives_len)
+{
+    const unsigned kinds = VOGIEBURN_CELL_LAST + 1;
+    vogieburn_operation made;
+
+    if (name_len == 0 || !vogieburn_operation_part(made.name, sizeof made.name, 256, (const uint8_t *)name, name_len) ||
+        !vogieburn_operation_part(made.takes, sizeof made.takes, 2 * kinds, takes, takes_len) ||
+        !vogieburn_operation_part(made.gives, sizeof made.gives, kinds, gives, gives_len))
+        return 0;
+    made.name_len = (uint8_t)name_len;
+    made.takes_len = (uint8_t)takes_len;
+    made.gives_len = (uint8_t)gives_len;
+    *operation = made;
+    return 1;
+}
 
 /* An entity's text, text_len bytes, in the text buffer that it was read into. */
 static inline const uint8_t *vogieburn_text(const vogieburn_entity *entity, const uint8_t *text)

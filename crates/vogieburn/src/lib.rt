@@ -2,6 +2,7 @@
 ghost use mathlib.Core.Path.{_≡_};
 ghost use Rattle.chars.specs.Limits.{limits};
 ghost use Rattle.reading.specs.Reading.{reading as readingOf};
+ghost use Rattle.checking.specs.Checking.{checking as checkingOf};
 use reading::Answer;
 
 // Reads a draft into a lent list and a lent text buffer.
@@ -12,4 +13,21 @@ pub extern "C" fn vogieburn_read(draft: &[u8], list: &mut [u32], text: &mut [u8]
     ensures { λ _. ⌜ now (text .exit) ≡ readingOf limits (now (draft .entry)) (now (list .entry)) (now (text .entry)) .text ⌝ }
 {
     reading::read(draft, list, text)
+}
+
+// Reads a draft likewise, and checks it against a lent table of operations.
+#[no_mangle]
+pub extern "C" fn vogieburn_check(
+    draft: &[u8],
+    list: &mut [u32],
+    text: &mut [u8],
+    table: &[u8],
+) -> Answer
+    ensures { λ r. ⌜ r ≡ checkingOf limits (now (draft .entry)) (now (list .entry)) (now (text .entry)) (now (table .entry)) .answer ⌝ }
+    ensures { λ _. ⌜ now (list .exit) ≡ checkingOf limits (now (draft .entry)) (now (list .entry)) (now (text .entry)) (now (table .entry))
+        .list ⌝ }
+    ensures { λ _. ⌜ now (text .exit) ≡ checkingOf limits (now (draft .entry)) (now (list .entry)) (now (text .entry)) (now (table .entry))
+        .text ⌝ }
+{
+    checking::check(draft, list, text, table)
 }
