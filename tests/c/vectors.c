@@ -2,85 +2,22 @@
  *
  *     vectors [--spoil N] FILE...
  *
- * Each line of a FILE is `case => answer`, as tests/vectors/README.md says. For every case of reading the draft is read with the
- * room that the line gives, and once more with five numbers of the list to spare, which are room for nothing. Every number of the
- * answer is compared, and the draft and both buffers whole, with the guards before and behind them. A line that does not hold
- * is named; the last line counts: 'N passed, M failed'.
+ * Each line of a FILE is `case => answer`, as tests/vectors/README.md says. Every case of reading and of checking is called with the
+ * room that the line gives, as calls.h says; a check's buffers are held against what reading the same draft leaves. The tables that
+ * checks name stand in tables.txt beside the FILE. A line that does not hold is named; the last line counts: 'N passed, M failed'.
  *
  * With --spoil one thing is damaged after each call, so that every line has to fail: the N of enum spoiled.
  */
-#include <inttypes.h>
-#include <stdarg.h>
 #include <stdbool.h>
 #include <stdio.h>
 #include <stdlib.h>
 #include <string.h>
 
-#include "vogieburn.h"
+#include "calls.h"
+#include "lent.h"
 
-_Static_assert(sizeof(vogieburn_entity) == VOGIEBURN_NUMBERS * sizeof(uint32_t), "an entity is six numbers");
-_Static_assert(sizeof(vogieburn_answer) == 7 * sizeof(uint64_t), "an answer is seven numbers");
-
-/* Elements before and behind each buffer; and the most room that a line may ask for. */
-enum { GUARD = 32, ROOM = 1000000 };
-
-/* What a line of reading says. */
-typedef struct {
-    uint8_t *draft;
-    size_t draft_len;
-    uint64_t list_room; /* entities */
-    uint64_t text_room; /* bytes */
-    vogieburn_answer answer;
-    vogieburn_entity *rows; /* the entities held */
-    size_t rows_len;
-    uint8_t *held; /* the text bytes held */
-    size_t held_len;
-} vector;
-
-/* What --spoil damages after a call. */
-enum spoiled {
-    SPOIL_NOTHING,
-    SPOIL_STEPS,
-    SPOIL_CELLS,
-    SPOIL_DRAFT,
-    SPOIL_BEFORE_LIST,
-    SPOIL_TEXT_AT,
-    SPOIL_PAST_ROWS,
-    SPOIL_LIST_END,
-    SPOIL_BEHIND_LIST,
-    SPOIL_BEFORE_TEXT,
-    SPOIL_PAST_HELD,
-    SPOIL_TEXT_END,
-    SPOIL_BEHIND_TEXT
-};
-
-/* The line that is being held. */
-static const char *path;
-static size_t line_number;
-
-/* Names the line and says what is wrong with it. */
-static bool wrong(const char *format, ...)
-{
-    va_list values;
-
-    printf("%s:%zu: ", path, line_number);
-    va_start(values, format);
-    vprintf(format, values);
-    va_end(values);
-    putchar('\n');
-    return false;
-}
-
-static void *room(size_t size)
-{
-    void *p = malloc(size > 0 ? size : 1);
-
-    if (p == NULL) {
-        fputs("vectors: out of memory\n", stderr);
-        exit(2);
-    }
-    return p;
-}
+/* The most room that a line may ask for. */
+enum { ROOM = 1000000 };
 
 /* ---- a line's words; each function moves `at` past what it found */
 
@@ -106,6 +43,16 @@ static bool number(const char **at, uint64_t *n)
         return false;
     for (*n = 0; **at >= '0' && **at <= '9'; ++*at)
         *n = *n * 10 + (uint64_t)(**at - '0');
+    return true;
+}
+
+static bool length(const char **at, size_t *n)
+{
+    uint64_t wide;
+
+    if (!number(at, &wide) || wide > ROOM)
+        return false;
+    *n = (size_t)wide;
     return true;
 }
 
@@ -166,161 +113,116 @@ static bool entities(const char **at, vector *v)
     return true;
 }
 
-/* The whole line. Numbers that it does not tell are 0. */
-static bool parsed(const char *at, vector *v)
+/* ---- lines */
+
+/* The draft, and the room for its entities and its text. */
+static bool draft_and_room(const char **at, uint8_t *draft, vector *v)
 {
-    memset(&v->answer, 0, sizeof v->answer);
-    return word(&at, "R ") && octets(&at, v->draft, &v->draft_len) && number(&at, &v->list_room) && number(&at, &v->text_room) &&
-           word(&at, "=> R ") && number(&at, &v->answer.number) && number(&at, &v->answer.place) &&
-           number(&at, &v->answer.entities) && number(&at, &v->answer.text) && number(&at, &v->answer.consumed) &&
-           word(&at, "|") && entities(&at, v) && octets(&at, v->held, &v->held_len) && *at == '\0';
+    v->draft = draft;
+    return octets(at, draft, &v->draft_len) && length(at, &v->list_room) && length(at, &v->text_room);
 }
 
-/* ---- buffers between their guards */
-
-/* A lent buffer, with guards before and behind it, and what it is to be after the call. */
-typedef struct {
-    const char *name;
-    size_t size; /* bytes to an element */
-    size_t len;  /* elements, without the guards */
-    uint8_t *got, *wanted;
-} buffer;
-
-/* Another seed is another byte at every place, so that no wrong write passes both calls by writing what is there. */
-static buffer lend(const char *name, size_t size, size_t len, uint32_t seed)
+/* The numbers that both calls answer; those that a line does not tell are 0. */
+static bool numbers(const char **at, vogieburn_answer *a)
 {
-    const size_t whole = (len + 2 * GUARD) * size;
-    buffer b = {name, size, len, room(whole), room(whole)};
-
-    for (size_t i = 0; i < whole; i++)
-        b.got[i] = (uint8_t)((((uint32_t)i + seed) * 2654435761u) >> 24);
-    memcpy(b.wanted, b.got, whole);
-    return b;
+    return number(at, &a->number) && number(at, &a->place) && number(at, &a->entities) && number(at, &a->text) &&
+           number(at, &a->consumed);
 }
 
-/* What the library is handed. */
-static uint8_t *start(const buffer *b, bool null)
+/* What a line of reading says to be held, which has to fit the room that it gives. */
+static bool held_rows(const char **at, vector *v)
 {
-    return null && b->len == 0 ? NULL : b->got + GUARD * b->size;
+    v->rows = room(strlen(*at) * sizeof *v->rows);
+    v->held = room(strlen(*at));
+    return word(at, "|") && entities(at, v) && octets(at, v->held, &v->held_len) && v->rows_len <= v->list_room &&
+           v->held_len <= v->text_room;
 }
 
-static void is_to_hold(buffer *b, const void *bytes, size_t size)
+static bool reading_holds(const char *at, uint8_t *draft, vector *v)
 {
-    memcpy(b->wanted + GUARD * b->size, bytes, size);
+    if (draft_and_room(&at, draft, v) && word(&at, "=> R ") && numbers(&at, &v->answer) && held_rows(&at, v) && *at == '\0')
+        return holds(v);
+    return wrong("cannot be read");
 }
 
-static uint32_t element(const buffer *b, const uint8_t *bytes, size_t i)
+/* The line of tables.txt, beside the file of vectors, that begins with `label`, or NULL. It is for free() to take back. */
+static char *line_of_table(const char *path, const char *label)
 {
-    uint32_t n = bytes[i];
+    const char *slash = strrchr(path, '/');
+    const int folder = slash != NULL ? (int)(slash - path) + 1 : 0;
+    char beside[4096], *line = NULL;
+    bool found = false;
+    size_t size = 0;
+    FILE *file;
 
-    if (b->size == sizeof n)
-        memcpy(&n, bytes + i * sizeof n, sizeof n);
-    return n;
-}
-
-static bool same_buffer(const buffer *b)
-{
-    for (size_t i = 0; i < b->len + 2 * GUARD; i++) {
-        const uint32_t got = element(b, b->got, i), wanted = element(b, b->wanted, i);
-
-        if (got != wanted)
-            return wrong("%s %td is %" PRIu32 ", not %" PRIu32, b->name, (ptrdiff_t)i - GUARD, got, wanted);
+    snprintf(beside, sizeof beside, "%.*stables.txt", folder, path);
+    file = fopen(beside, "r");
+    while (!found && file != NULL && getline(&line, &size, file) >= 0)
+        found = strncmp(line, label, strlen(label)) == 0;
+    if (file != NULL)
+        fclose(file);
+    if (!found) {
+        free(line);
+        line = NULL;
     }
-    return true;
+    return line;
 }
 
-static void take_back(buffer *b)
+/* The bytes of the table that is named here, or NULL. They are for free() to take back. */
+static uint8_t *table_named(const char *path, const char **at, size_t *len)
 {
-    free(b->got);
-    free(b->wanted);
-}
+    char label[40], *line;
+    uint8_t *table = NULL;
+    int name_len;
 
-static bool same_answer(const vogieburn_answer *got, const vogieburn_answer *wanted)
-{
-    static const char *const names[] = {"number", "place", "entities", "text", "consumed", "steps", "cells"};
-    const uint64_t a[] = {got->number, got->place, got->entities, got->text, got->consumed, got->steps, got->cells};
-    const uint64_t b[] = {wanted->number,   wanted->place, wanted->entities, wanted->text,
-                          wanted->consumed, wanted->steps, wanted->cells};
+    skip_spaces(at);
+    name_len = (int)strcspn(*at, " ");
+    snprintf(label, sizeof label, "%.*s ", name_len, *at);
+    *at += name_len;
+    line = line_of_table(path, label);
+    if (line != NULL) {
+        const char *bytes = line + strlen(label);
 
-    for (size_t i = 0; i < sizeof a / sizeof *a; i++)
-        if (a[i] != b[i])
-            return wrong("%s is %" PRIu64 ", not %" PRIu64, names[i], a[i], b[i]);
-    return true;
-}
-
-/* ---- a line */
-
-/* Changes an element; -1 and `len` are the nearest ones of the guards. */
-static void flip(buffer *b, ptrdiff_t i)
-{
-    b->got[(size_t)(GUARD + i) * b->size] ^= 1;
-}
-
-/* Damages one thing after a call, as a wrong library might. */
-static void spoil(enum spoiled what, const vector *v, vogieburn_answer *answer, buffer *draft, buffer *list, buffer *text)
-{
-    switch (what) {
-    case SPOIL_STEPS: answer->steps++; break;
-    case SPOIL_CELLS: answer->cells++; break;
-    case SPOIL_DRAFT: flip(draft, 0); break;
-    case SPOIL_BEFORE_LIST: flip(list, -1); break;
-    case SPOIL_TEXT_AT: flip(list, 2); break;
-    case SPOIL_PAST_ROWS: flip(list, (ptrdiff_t)(VOGIEBURN_NUMBERS * v->rows_len)); break;
-    case SPOIL_LIST_END: flip(list, (ptrdiff_t)list->len - 1); break;
-    case SPOIL_BEHIND_LIST: flip(list, (ptrdiff_t)list->len); break;
-    case SPOIL_BEFORE_TEXT: flip(text, -1); break;
-    case SPOIL_PAST_HELD: flip(text, (ptrdiff_t)v->held_len); break;
-    case SPOIL_TEXT_END: flip(text, (ptrdiff_t)text->len - 1); break;
-    case SPOIL_BEHIND_TEXT: flip(text, (ptrdiff_t)text->len); break;
-    case SPOIL_NOTHING: break;
+        table = room(strlen(line));
+        if (!octets(&bytes, table, len) || *bytes != '\n') {
+            free(table);
+            table = NULL;
+        }
     }
+    free(line);
+    return table;
 }
 
-/* One call, with room for `list_len` numbers; with `null`, null pointers stand where a length is 0. */
-static bool call_holds(const vector *v, size_t list_len, bool null, uint32_t seed, enum spoiled what)
+static bool check_holds(const char *path, const char *at, uint8_t *draft, vector *v)
 {
-    buffer draft = lend("draft byte", 1, v->draft_len, seed);
-    buffer list = lend("list number", sizeof(uint32_t), list_len, seed);
-    buffer text = lend("text byte", 1, (size_t)v->text_room, seed);
-    vogieburn_answer answer;
-    bool same;
+    uint8_t *table = NULL;
+    bool good = false;
 
-    memcpy(draft.got + GUARD, v->draft, v->draft_len);
-    is_to_hold(&draft, v->draft, v->draft_len);
-    is_to_hold(&list, v->rows, v->rows_len * sizeof *v->rows);
-    is_to_hold(&text, v->held, v->held_len);
-    answer = vogieburn_read(start(&draft, null), draft.len, (uint32_t *)(void *)start(&list, null), list.len, start(&text, null),
-                            text.len);
-    spoil(what, v, &answer, &draft, &list, &text);
-    same = same_answer(&answer, &v->answer) && same_buffer(&draft) && same_buffer(&list) && same_buffer(&text);
-    take_back(&draft);
-    take_back(&list);
-    take_back(&text);
-    return same;
+    v->checks = true;
+    if (draft_and_room(&at, draft, v) && (table = table_named(path, &at, &v->table_len)) != NULL && word(&at, "=> C ") &&
+        numbers(&at, &v->answer) && number(&at, &v->answer.steps) && number(&at, &v->answer.cells) && *at == '\0') {
+        v->table = table;
+        hold_reading(v);
+        good = holds(v);
+    } else {
+        wrong("cannot be read, or its table is not there");
+    }
+    free(table);
+    return good;
 }
 
-/* What a line says to be held fits the room that it gives. */
-static bool sound(const vector *v)
+/* Holds one line. */
+static bool line_holds(const char *path, const char *line)
 {
-    return v->list_room <= ROOM && v->text_room <= ROOM && v->rows_len <= v->list_room && v->held_len <= v->text_room;
-}
+    uint8_t *draft = room(strlen(line));
+    vector v = {0};
+    bool good;
 
-/* Both calls of a line. The second lends five numbers more, and addresses also where a length is 0. */
-static bool line_holds(const vector *v, enum spoiled what)
-{
-    const size_t list_len = VOGIEBURN_NUMBERS * (size_t)v->list_room;
-
-    return call_holds(v, list_len, true, 1, what) && call_holds(v, list_len + VOGIEBURN_NUMBERS - 1, false, 2, what);
-}
-
-/* Holds one line of reading. */
-static bool held(const char *line, enum spoiled what)
-{
-    const size_t len = strlen(line);
-    vector v = {.draft = room(len), .rows = room(len * sizeof *v.rows), .held = room(len)};
-    const bool good = parsed(line, &v) && sound(&v) ? line_holds(&v, what) : wrong("cannot be read");
-
-    free(v.draft);
+    if (word(&line, "C "))
+        good = check_holds(path, line, draft, &v);
+    else
+        good = word(&line, "R ") ? reading_holds(line, draft, &v) : wrong("cannot be read");
+    free(draft);
     free(v.rows);
     free(v.held);
     return good;
@@ -334,24 +236,24 @@ typedef struct {
 
 static bool is_of_another_call(const char *line)
 {
-    return line[0] != '\0' && strchr("CTS", line[0]) != NULL && line[1] == ' ';
+    return line[0] != '\0' && strchr("TS", line[0]) != NULL && line[1] == ' ';
 }
 
-/* Holds the lines of reading of one file; a file without any fails. */
-static void hold_file(counts *n, enum spoiled what)
+/* Holds the lines of one file; a file without any fails. */
+static void hold_file(const char *path, counts *n)
 {
     FILE *file = fopen(path, "r");
     const size_t before = n->passed + n->failed;
+    size_t size = 0, line_number = 0;
     char *line = NULL;
-    size_t size = 0;
 
-    line_number = 0;
+    now_held("%s", path);
     while (file != NULL && getline(&line, &size, file) >= 0) {
-        line_number++;
+        now_held("%s:%zu", path, ++line_number);
         line[strcspn(line, "\n")] = '\0';
         if (line[0] == '\0' || is_of_another_call(line))
             continue;
-        if (held(line, what))
+        if (line_holds(path, line))
             n->passed++;
         else
             n->failed++;
@@ -360,29 +262,26 @@ static void hold_file(counts *n, enum spoiled what)
     if (file != NULL)
         fclose(file);
     if (n->passed + n->failed == before) {
-        wrong("no line of reading");
+        wrong("no line of reading or checking");
         n->failed++;
     }
 }
 
 int main(int argc, char **argv)
 {
-    enum spoiled what = SPOIL_NOTHING;
     counts n = {0, 0};
     int first = 1;
 
     if (argc > 2 && strcmp(argv[1], "--spoil") == 0) {
-        what = (enum spoiled)atoi(argv[2]);
+        spoil_with((enum spoiled)atoi(argv[2]));
         first = 3;
     }
     if (first >= argc) {
         fputs("usage: vectors [--spoil N] FILE...\n", stderr);
         return 2;
     }
-    for (int i = first; i < argc; i++) {
-        path = argv[i];
-        hold_file(&n, what);
-    }
+    for (int i = first; i < argc; i++)
+        hold_file(argv[i], &n);
     printf("%zu passed, %zu failed\n", n.passed, n.failed);
     return n.failed > 0 ? 1 : 0;
 }
