@@ -1,12 +1,25 @@
-/* A second reader of Shastina texts, written from documents 004 and 01 and the header, without a look at the library's code.
+/* A second reader of Shastina texts and its check, written from documents 004 and 01, docs/LAYOUT.md and the header, without a look
+ * at the library's code.
  *
- * PEER_WRONG, a number given when peer.c is compiled, changes one rule, so that a comparison can be shown to find it:
+ * PEER_WRONG, a number given when they are compiled, changes one rule, so that a comparison can be shown to find it:
  *   0  no rule is changed;
  *   1  `,` right after `[` ends an element whose begin group was never reported, as in `[,]`;
  *   2  a quote, or a curly, is called escaped because one backslash stands before it, as in "a\\";
  *   3  `|;` is taken as the end wherever it stands, as in `a|;`;
  *   4  a high surrogate before malformed bytes is 2 and not 3;
- *   5  19 is looked at before 18 (but for the 18 of an inserted begin group).
+ *   5  19 is looked at before 18 (but for the 18 of an inserted begin group);
+ *   6  an empty element, or group, counts as a cell, as in `[1,]`;
+ *   7  what takes a cell reaches hidden ones, as in `1 (n)`;
+ *   8  23 is looked at before 22, on a hidden cell, as in `"" (n)`;
+ *   9  there is no 24: a plain number serves as a count of 0;
+ *  10  a group closes on two cells as well;
+ *  11  a put to a constant is let through;
+ *  12  1,025 cells are let through;
+ *  13  1 is looked at before 20;
+ *  14  129 names are let through;
+ *  15  a put looks for its name before it looks for a cell: 26 and 27 before 22;
+ *  16  two equal names in a table are seen only side by side;
+ *  17  29 is looked at before an operation takes its items.
  */
 #ifndef PEER_H
 #define PEER_H
@@ -21,5 +34,9 @@
  * pointer may be null. */
 vogieburn_answer peer_read(const uint8_t *draft, size_t draft_len, uint32_t *list, size_t list_len, uint8_t *text,
                            size_t text_len);
+
+/* Checks a draft exactly as vogieburn_check does. The table stays as it is, too. */
+vogieburn_answer peer_check(const uint8_t *draft, size_t draft_len, uint32_t *list, size_t list_len, uint8_t *text,
+                            size_t text_len, const uint8_t *table, size_t table_len);
 
 #endif
