@@ -1,37 +1,61 @@
 #include "compare.h"
 
-#include <assert.h>
 #include <inttypes.h>
 #include <stdarg.h>
 #include <stdio.h>
 #include <string.h>
 
 #include "draft.h"
+#include "lent.h"
 #include "readers.h"
+#include "table.h"
 
 _Static_assert(sizeof(vogieburn_entity) == VOGIEBURN_NUMBERS * sizeof(uint32_t), "entities have no gaps");
 _Static_assert(sizeof(vogieburn_answer) == 7 * sizeof(uint64_t), "answers have no gaps");
 
-enum {
-    GUARD = 32,                                               /* bytes before and behind each buffer */
-    AREA = DRAFT_ROOM * 2 * sizeof(vogieburn_entity) + 65536, /* the most that both buffers take, with their guards */
-    TURNS = 1021                                              /* calls until the pattern comes again */
+/* A reading is lent all but the table. */
+enum { LIST, TEXT, DRAFT, TABLE, BUFFERS };
+
+static const char *const buffer_names[BUFFERS] = {"list", "text", "draft", "table"};
+
+/* Every byte of a draft can bring two entities. */
+enum { LIST_ROOM = DRAFT_ROOM * 2 * sizeof(vogieburn_entity) };
+
+static const size_t most_bytes[BUFFERS] = {
+    [LIST] = LIST_ROOM,
+    [TEXT] = DRAFT_ROOM + 64,
+    [DRAFT] = DRAFT_ROOM,
+    [TABLE] = OPERATION_ROOM * sizeof(vogieburn_operation),
 };
 
-/* What a reader is lent, in one stretch: guard, list, guard, text, guard. The numbers are bytes from its start. */
+/* Who is called, with memory of its own. */
 typedef struct {
-    size_t list, list_end, text, text_end, size;
-} layout;
+    const char *name;
+    reader *read;
+    checker *check;
+    enum page page;
+    buffer lent[BUFFERS];
+} caller;
 
-static uint32_t archive_area[AREA / sizeof(uint32_t)], peer_area[AREA / sizeof(uint32_t)];
-static uint8_t draft_area[GUARD + DRAFT_ROOM + GUARD], beside_draft[GUARD];
-static uint8_t pattern[AREA + TURNS];
-static size_t turn;
-static uint64_t spoiled;
+/* The library is called twice, so that a page stands on either side of what it is lent. */
+static caller callers[] = {
+    {.name = "peer", .read = peer_read, .check = peer_check, .page = PAGE_BEHIND},
+    {.name = "archive", .read = archive_read, .check = archive_check, .page = PAGE_BEHIND},
+    {.name = "archive behind pages", .read = archive_read, .check = archive_check, .page = PAGE_BEFORE},
+};
+static caller *const peer = &callers[0];
+
+/* What is done to a call so that the trial has to fail; 0 is nothing. */
+static uint64_t spoiled, touching;
 
 void spoil_with(uint64_t way)
 {
     spoiled = way;
+}
+
+void touch_with(uint64_t way)
+{
+    touching = way;
 }
 
 static bool differ(verdict *v, const char *format, ...)
@@ -46,160 +70,191 @@ static bool differ(verdict *v, const char *format, ...)
 
 /* ---- what is lent */
 
-/* Begins a turn. The list is aligned as its numbers are, and in every other turn no better. */
-static layout lay_out(const reading *r)
-{
-    layout l;
+/* Calls until the pattern comes again. */
+enum { TURNS = 1021 };
 
-    turn++;
-    l.list = GUARD + sizeof(uint32_t) * (turn % 2);
-    l.list_end = l.list + sizeof(uint32_t) * r->list_len;
-    l.text = l.list_end + GUARD;
-    l.text_end = l.text + r->text_len;
-    l.size = l.text_end + GUARD;
-    assert(r->draft_len <= DRAFT_ROOM && l.size <= AREA);
-    return l;
+static size_t turn;
+
+/* What list and text are lent with, and before it what the guards have. Neighbours differ in the pattern, and a turn moves it by
+ * one: so no place has what it had in the call before. */
+static const uint8_t *pattern(void)
+{
+    static uint8_t bytes[GUARD + LIST_ROOM + TURNS];
+
+    if (bytes[1] == 0)
+        for (size_t i = 0; i < sizeof bytes; i++)
+            bytes[i] = (uint8_t)(((uint32_t)i * 2654435761u) >> 24);
+    return bytes + turn % TURNS;
 }
 
-/* Neighbours differ in the pattern, and a turn moves it by one: so no place has what it had in the call before. */
-static const uint8_t *lent(void)
+static size_t buffers_of(const call *c)
 {
-    if (pattern[1] == 0)
-        for (size_t i = 0; i < sizeof pattern; i++)
-            pattern[i] = (uint8_t)(((uint32_t)i * 2654435761u) >> 24);
-    return pattern + turn % TURNS;
+    return c->table == NULL ? TABLE : BUFFERS;
 }
 
-/* The draft's own guards. A reading that went on behind the draft would be changed by what stands there. */
-static void lend_draft(const reading *r)
+static void lend_all(caller *by, const call *c)
 {
-    static const uint8_t bytes[] = {';', 0x80, '\n', '"', 0xB0, ' ', '}'};
+    const uint8_t *const guard = pattern(), *const any = guard + GUARD;
 
-    memset(beside_draft, bytes[turn % sizeof bytes], GUARD);
-    memcpy(draft_area, beside_draft, GUARD);
-    memcpy(draft_area + GUARD, r->draft, r->draft_len);
-    memcpy(draft_area + GUARD + r->draft_len, beside_draft, GUARD);
+    if (by->lent[LIST].first == NULL)
+        for (size_t i = 0; i < BUFFERS; i++)
+            make_buffer(&by->lent[i], buffer_names[i], most_bytes[i]);
+    lend(&by->lent[LIST], by->page, any, c->list_len * sizeof(uint32_t), guard);
+    lend(&by->lent[TEXT], by->page, any, c->text_len, guard);
+    lend(&by->lent[DRAFT], by->page, c->draft, c->draft_len, guard);
+    if (c->table != NULL)
+        lend(&by->lent[TABLE], by->page, c->table, c->table_len, guard);
+}
+
+/* A buffer of no bytes leads to the page behind it, or is null. */
+static void *pointer(const caller *by, size_t which)
+{
+    const buffer *const b = &by->lent[which];
+
+    return b->len == 0 && by->page == PAGE_BEFORE ? NULL : b->bytes;
+}
+
+const char *stopped_at(const void *byte)
+{
+    static char words[100];
+
+    for (size_t i = 0; i < COUNT(callers); i++)
+        for (size_t j = 0; j < BUFFERS; j++)
+            if (lies_at(&callers[i].lent[j], byte)) {
+                snprintf(words, sizeof words, "the %s touched %s", callers[i].name, where(&callers[i].lent[j], byte));
+                return words;
+            }
+    return "what was touched is beside no lent buffer";
 }
 
 /* ---- what came back */
 
-/* Where in the area a byte lies, in words. */
-static const char *place(const layout *l, size_t at)
+/* Bytes of a buffer that an answer tells to be held. Draft and table are no place to hold anything. */
+static size_t held(const vogieburn_answer *a, size_t which)
 {
-    static char words[60];
-
-    if (at < l->list)
-        snprintf(words, sizeof words, "byte %zu before the list", l->list - at);
-    else if (at < l->list_end)
-        snprintf(words, sizeof words, "list number %zu", (at - l->list) / sizeof(uint32_t));
-    else if (at < l->text)
-        snprintf(words, sizeof words, "byte %zu between list and text", at - l->list_end);
-    else if (at < l->text_end)
-        snprintf(words, sizeof words, "text byte %zu", at - l->text);
-    else
-        snprintf(words, sizeof words, "byte %zu behind the text", at - l->text_end);
-    return words;
+    switch (which) {
+    case LIST: return (size_t)a->entities * sizeof(vogieburn_entity);
+    case TEXT: return (size_t)a->text;
+    default: return 0;
+    }
 }
 
-/* Whether the area is as it was lent, from one byte up to another. */
-static bool untouched(const char *who, const uint8_t *area, const layout *l, size_t from, size_t to, verdict *v)
+/* Whether a caller left alone what its answer does not say to be held. */
+static bool kept(const caller *by, const call *c, const vogieburn_answer *a, verdict *v)
 {
-    if (memcmp(area + from, lent() + from, to - from) == 0)
-        return true;
-    while (area[from] == lent()[from])
-        from++;
-    return differ(v, "the %s wrote to %s, which it does not hold", who, place(l, from));
-}
+    if (a->number > last_refusal(c->table != NULL))
+        return differ(v, "the %s answers %" PRIu64 ", which is no refusal of this call", by->name, a->number);
+    if (a->entities > c->list_len / VOGIEBURN_NUMBERS || a->text > c->text_len)
+        return differ(v, "the %s tells that it holds more than there is room for", by->name);
+    for (size_t i = 0; i < buffers_of(c); i++) {
+        const uint8_t *const at = touched(&by->lent[i], held(a, i));
 
-static bool draft_untouched(const char *who, const reading *r, verdict *v)
-{
-    if (memcmp(draft_area, beside_draft, GUARD) != 0 || memcmp(draft_area + GUARD + r->draft_len, beside_draft, GUARD) != 0)
-        return differ(v, "the %s wrote beside the draft", who);
-    if (memcmp(draft_area + GUARD, r->draft, r->draft_len) != 0)
-        return differ(v, "the %s changed the draft", who);
+        if (at != NULL)
+            return differ(v, "the %s wrote to %s, which it does not hold", by->name, where(&by->lent[i], at));
+    }
     return true;
 }
 
-/* Whether a reader left alone what its answer does not say to be held. */
-static bool kept(const char *who, const uint8_t *area, const layout *l, const reading *r, const vogieburn_answer *a, verdict *v)
-{
-    if (a->number > LAST_REFUSAL)
-        return differ(v, "the %s answers %" PRIu64 ", which is no refusal of reading", who, a->number);
-    if (a->entities > r->list_len / VOGIEBURN_NUMBERS || a->text > r->text_len)
-        return differ(v, "the %s tells that it holds more than there is room for", who);
-    return untouched(who, area, l, 0, l->list, v) &&
-           untouched(who, area, l, l->list + a->entities * sizeof(vogieburn_entity), l->text, v) &&
-           untouched(who, area, l, l->text + a->text, l->size, v) && draft_untouched(who, r, v);
-}
-
-static bool same_answers(verdict *v)
+static bool same_answers(const caller *by, verdict *v)
 {
     static const char *const names[] = {"number", "place", "entities", "text", "consumed", "steps", "cells"};
-    uint64_t archive[COUNT(names)], peer[COUNT(names)];
+    uint64_t archive[COUNT(names)], other[COUNT(names)];
 
     if (memcmp(&v->archive, &v->peer, sizeof v->peer) == 0)
         return true;
     memcpy(archive, &v->archive, sizeof archive);
-    memcpy(peer, &v->peer, sizeof peer);
+    memcpy(other, &v->peer, sizeof other);
     for (size_t i = 0; i < COUNT(names); i++)
-        if (archive[i] != peer[i])
-            return differ(v, "%s: %" PRIu64 " by the archive, %" PRIu64 " by the peer", names[i], archive[i], peer[i]);
+        if (archive[i] != other[i])
+            return differ(v, "%s: %" PRIu64 " by the %s, %" PRIu64 " by the peer", names[i], archive[i], by->name, other[i]);
     return true;
 }
 
-static bool same_areas(const layout *l, verdict *v)
+/* Whether both hold the same bytes; their answers are the same. */
+static bool same_held(const caller *by, verdict *v)
 {
-    const uint8_t *archive = (const uint8_t *)archive_area, *peer = (const uint8_t *)peer_area;
-    size_t at = 0;
+    for (size_t i = LIST; i <= TEXT; i++) {
+        const uint8_t *const archive = by->lent[i].bytes, *const other = peer->lent[i].bytes;
+        size_t at = 0;
 
-    if (memcmp(archive, peer, l->size) == 0)
-        return true;
-    while (archive[at] == peer[at])
-        at++;
-    return differ(v, "%s: its first other byte is %u by the archive, %u by the peer", place(l, at), archive[at], peer[at]);
+        if (memcmp(archive, other, held(&v->archive, i)) == 0)
+            continue;
+        while (archive[at] == other[at])
+            at++;
+        return differ(v, "%s: %u by the %s, %u by the peer", where(&peer->lent[i], other + at), archive[at], by->name, other[at]);
+    }
+    return true;
 }
 
-/* ---- a reading */
+/* ---- a call */
 
-/* Damages one thing, as a wrong reader might: one of the answer's seven numbers, one of eight bytes of what was lent, or the
- * draft. Where nothing is held, nothing is damaged. */
-static void spoil(const layout *l, vogieburn_answer *a)
+/* Damages what a wrong caller might: one of the answer's seven numbers, or of a buffer its first byte, one that is not held, or
+ * its guard's first or last. A call that holds too little for that is left as it is. */
+static void spoil(caller *by, const call *c, vogieburn_answer *a)
 {
-    const size_t rows_end = l->list + a->entities * sizeof(vogieburn_entity);
-    const size_t at[] = {0, l->list - 1, l->list, rows_end, l->text - 1, l->text, l->text + a->text, l->size - 1};
+    const size_t way = (spoiled - 1) / COUNT(callers);
     uint64_t numbers[7];
 
-    if (a->entities == 0 || a->text == 0)
+    if (by != &callers[(spoiled - 1) % COUNT(callers)])
         return;
-    if (spoiled <= COUNT(numbers)) {
+    if (way < COUNT(numbers)) {
         memcpy(numbers, a, sizeof numbers);
-        numbers[spoiled - 1]++;
+        numbers[way]++;
         memcpy(a, numbers, sizeof numbers);
-    } else if (spoiled < SPOILED) {
-        ((uint8_t *)peer_area)[at[spoiled - COUNT(numbers) - 1]] ^= 1;
-    } else {
-        draft_area[GUARD] ^= 1;
+    } else if (way < COUNT(numbers) + 4 * buffers_of(c)) {
+        const size_t which = (way - COUNT(numbers)) / 4;
+        const buffer *const b = &by->lent[which];
+        const size_t first_kept = held(a, which);
+        uint8_t *const at[] = {b->bytes, b->bytes + first_kept, b->guard, b->guard + GUARD - 1};
+
+        if ((which >= DRAFT || first_kept > 0) && first_kept < b->len)
+            *at[(way - COUNT(numbers)) % 4] ^= 1;
     }
 }
 
-static vogieburn_answer call(reader *read, uint32_t *area, const layout *l, const reading *r)
+/* Touches the page beside a buffer: writes there if the buffer is lent to be written. */
+static void touch(const caller *by, const call *c)
 {
-    memcpy(area, lent(), l->size);
-    return read(draft_area + GUARD, r->draft_len, area + l->list / sizeof *area, r->list_len, (uint8_t *)area + l->text,
-                r->text_len);
+    const size_t which = (touching - 1) / 2;
+    const buffer *const b = &by->lent[which];
+    volatile uint8_t *const past = by->page == PAGE_BEHIND ? b->bytes + b->len : b->bytes - 1;
+
+    if ((touching - 1) % 2 != (by->page == PAGE_BEFORE) || which >= buffers_of(c))
+        return;
+    if (which == LIST || which == TEXT)
+        *past = 0;
+    else
+        (void)*past;
 }
 
-bool same(const reading *r, verdict *v)
+static vogieburn_answer answer(caller *by, const call *c)
 {
-    const layout l = lay_out(r);
-    bool archive_kept;
+    vogieburn_answer a;
 
-    lend_draft(r);
-    v->archive = call(archive_read, archive_area, &l, r);
-    archive_kept = kept("archive", (const uint8_t *)archive_area, &l, r, &v->archive, v);
-    lend_draft(r);
-    v->peer = call(peer_read, peer_area, &l, r);
+    lend_all(by, c);
+    if (c->table == NULL)
+        a = by->read(pointer(by, DRAFT), c->draft_len, pointer(by, LIST), c->list_len, pointer(by, TEXT), c->text_len);
+    else
+        a = by->check(pointer(by, DRAFT), c->draft_len, pointer(by, LIST), c->list_len, pointer(by, TEXT), c->text_len,
+                      pointer(by, TABLE), c->table_len);
     if (spoiled > 0)
-        spoil(&l, &v->peer);
-    return archive_kept && kept("peer", (const uint8_t *)peer_area, &l, r, &v->peer, v) && same_answers(v) && same_areas(&l, v);
+        spoil(by, c, &a);
+    if (touching > 0 && by != peer)
+        touch(by, c);
+    return a;
+}
+
+bool same(const call *c, verdict *v)
+{
+    bool peer_kept;
+
+    turn++;
+    v->peer = answer(peer, c);
+    peer_kept = kept(peer, c, &v->peer, v);
+    for (caller *by = peer + 1; by < callers + COUNT(callers); by++) {
+        v->archive = answer(by, c);
+        if (!peer_kept || !kept(by, c, &v->archive, v) || !same_answers(by, v) || !same_held(by, v))
+            return false;
+    }
+    return true;
 }

@@ -68,6 +68,14 @@ static inline void put_character(draft *d, uint32_t c)
     }
 }
 
+/* A name of so many bytes, which are alike but for the one at `at`. */
+static inline void put_marked(draft *d, size_t len, size_t at, unsigned mark)
+{
+    put_many(d, 'm', at);
+    put_byte(d, mark);
+    put_many(d, 'm', len - at - 1);
+}
+
 /* What stands first in a draft, what comes again and again, and what stands last. */
 typedef struct {
     piece before, again, behind;

@@ -3,6 +3,7 @@
 
 #include "draft.h"
 #include "parts.h"
+#include "table.h"
 #include "tally.h"
 
 /* What a sequence stands between. */
@@ -20,30 +21,31 @@ typedef struct {
 } sequences;
 
 static uint64_t drafts;
+static const table *under; /* the table, if drafts are checked */
 
 /* ---- room */
 
 /* More than any of these drafts needs. */
 enum { ENTITIES = 20, TEXT = 40 };
 
-/* One reading with ample room, and now and then some numbers over. */
+/* One call with ample room, and now and then some numbers over. */
 static void read_amply(const draft *d)
 {
     begin_draft(drafts);
-    hold(d->bytes, d->len, ENTITIES * VOGIEBURN_NUMBERS + drafts % VOGIEBURN_NUMBERS, TEXT);
+    hold(d, under, ENTITIES * VOGIEBURN_NUMBERS + drafts % VOGIEBURN_NUMBERS, TEXT);
     drafts++;
 }
 
-/* A reading with every room that is too small for the draft, and with the one that is not. */
+/* A call with every room that is too small for the draft, and with the one that is not. */
 static void read_with_each_room(const draft *d)
 {
     vogieburn_answer most;
 
     begin_draft(drafts++);
-    most = hold(d->bytes, d->len, ENTITIES * VOGIEBURN_NUMBERS, TEXT);
+    most = hold(d, under, ENTITIES * VOGIEBURN_NUMBERS, TEXT);
     for (size_t entities = 0; entities <= most.entities; entities++)
         for (size_t text = 0; text <= most.text; text++)
-            hold(d->bytes, d->len, entities * VOGIEBURN_NUMBERS + (entities + text) % VOGIEBURN_NUMBERS, text);
+            hold(d, under, entities * VOGIEBURN_NUMBERS + (entities + text) % VOGIEBURN_NUMBERS, text);
 }
 
 /* ---- sequences */
@@ -165,8 +167,38 @@ static void try_utf8(bool short_form)
     read_sequences(short_form ? "up to 3 bytes that UTF-8 tells apart" : "up to 4 bytes that UTF-8 tells apart", &all);
 }
 
+/* ---- checks */
+
+/* What the check tells apart under the table below: literals, groups and arrays, a metacommand, two names, one of them empty, and
+ * operations, of which the first is named as a variable is and the last is unknown. */
+static const piece of_checks[] = {
+    PIECE("1 "),  PIECE("\"\""), PIECE("("),   PIECE(")"),   PIECE("["),  PIECE(","),  PIECE("]"),
+    PIECE("[]"),  PIECE("%;"),   PIECE("?a "), PIECE("=a "), PIECE(":a "), PIECE("@ "), PIECE("= "),
+    PIECE(": "),  PIECE("a "),   PIECE("b "),  PIECE("c "),  PIECE("d "),
+};
+
+static const operation operations[] = {
+    {PIECE("a"), PIECE("\x10"), PIECE("\2")},
+    {PIECE("b"), PIECE("\0\1"), PIECE("\1\0")},
+    {PIECE("c"), PIECE("\2\x11"), PIECE("")},
+};
+
+void try_every_check(bool short_form)
+{
+    static table t;
+    static const surrounding bare[] = {{PIECE(""), PIECE(" |;")}};
+    const sequences all = {of_checks, COUNT(of_checks), short_form ? 4 : 5, bare, COUNT(bare), read_amply};
+    const sequences few = {of_checks, COUNT(of_checks), short_form ? 2 : 3, bare, COUNT(bare), read_with_each_room};
+
+    put_operations(&t, operations, COUNT(operations));
+    under = &t;
+    read_sequences(short_form ? "every check of up to 4 symbols" : "every check of up to 5 symbols", &all);
+    read_sequences(short_form ? "up to 2 symbols, checked with every room" : "up to 3 symbols, checked with every room", &few);
+}
+
 void try_every_draft(bool short_form)
 {
+    under = NULL;
     try_symbols(short_form);
     try_nesting(short_form);
     try_bytes();

@@ -54,7 +54,7 @@ static void comment(lots *l, draft *d)
     put(d, one_in(l, 2) ? (piece)PIECE("\n") : (piece)PIECE("\r\n"));
 }
 
-static void gap(lots *l, draft *d)
+void put_gap(lots *l, draft *d)
 {
     do {
         if (one_in(l, 8))
@@ -113,7 +113,7 @@ static void data(lots *l, draft *d, size_t len, size_t nested)
 }
 
 /* A few characters, or about as many bytes as string data may have. */
-static void string(lots *l, draft *d)
+void put_string(lots *l, draft *d)
 {
     const bool curly = one_in(l, 2);
 
@@ -132,14 +132,14 @@ static void string(lots *l, draft *d)
 
 static void items(lots *l, draft *d, size_t nested);
 
-static void metacommand(lots *l, draft *d)
+void put_metacommand(lots *l, draft *d)
 {
     static const char atoms[] = "()[],}";
 
     put_byte(d, '%');
     for (size_t n = below(l, 5); n > 0; n--)
         if (one_in(l, 3)) {
-            string(l, d);
+            put_string(l, d);
         } else if (one_in(l, 4)) {
             put_byte(d, (unsigned char)atoms[below(l, sizeof atoms - 1)]);
         } else {
@@ -168,11 +168,11 @@ static void item(lots *l, draft *d, size_t nested)
     if (sort < 5) {
         simple(l, d);
         if (!one_in(l, 8))
-            gap(l, d);
+            put_gap(l, d);
     } else if (sort < 8) {
-        string(l, d);
+        put_string(l, d);
     } else if (sort == 8) {
-        metacommand(l, d);
+        put_metacommand(l, d);
     } else if (sort == 9) {
         put_byte(d, '}');
     } else if (nested < NESTED && sort == 10) {
@@ -189,7 +189,7 @@ static void items(lots *l, draft *d, size_t nested)
     for (size_t n = below(l, 4); n > 0; n--) {
         item(l, d, nested);
         if (one_in(l, 4))
-            gap(l, d);
+            put_gap(l, d);
     }
 }
 
@@ -221,7 +221,7 @@ void make_draft(lots *l, draft *d)
         deep(l, d);
     for (size_t n = below(l, 9); n > 0; n--)
         items(l, d, 0);
-    gap(l, d);
+    put_gap(l, d);
     put(d, (piece)PIECE("|;"));
     for (size_t n = one_in(l, 4) ? below(l, 6) : 0; n > 0; n--)
         put_byte(d, (unsigned)below(l, 256));

@@ -7,8 +7,9 @@
 
 static draft d;
 static uint64_t drafts;
+static const table *under; /* the table, if drafts are checked */
 
-/* Reads the draft with room for so many entities, then with the room that it took, and with one entity, one number or one byte
+/* Makes a call with room for so many entities, then with the room that it took, and with one entity, one number or one byte
  * more or less than that. */
 static void read_around(size_t entities)
 {
@@ -16,15 +17,15 @@ static void read_around(size_t entities)
     size_t list_len, text_len;
 
     begin_draft(drafts++);
-    a = hold(d.bytes, d.len, entities * VOGIEBURN_NUMBERS, d.len);
+    a = hold(&d, under, entities * VOGIEBURN_NUMBERS, d.len);
     list_len = (size_t)a.entities * VOGIEBURN_NUMBERS;
     text_len = (size_t)a.text;
-    hold(d.bytes, d.len, list_len, text_len);
-    hold(d.bytes, d.len, list_len + VOGIEBURN_NUMBERS, text_len + 1);
+    hold(&d, under, list_len, text_len);
+    hold(&d, under, list_len + VOGIEBURN_NUMBERS, text_len + 1);
     if (list_len > 0)
-        hold(d.bytes, d.len, list_len - 1, text_len);
+        hold(&d, under, list_len - 1, text_len);
     if (text_len > 0)
-        hold(d.bytes, d.len, list_len, text_len - 1);
+        hold(&d, under, list_len, text_len - 1);
 }
 
 /* ---- the draft's length */
@@ -172,17 +173,18 @@ static void try_rooms(void)
         d.len = 0;
         put(&d, models[i]);
         begin_draft(drafts++);
-        a = hold(d.bytes, d.len, 2 * d.len * VOGIEBURN_NUMBERS, d.len);
+        a = hold(&d, under, 2 * d.len * VOGIEBURN_NUMBERS, d.len);
         for (size_t list_len = 0; list_len <= (a.entities + 1) * VOGIEBURN_NUMBERS; list_len++)
             for (size_t text_len = 0; text_len <= a.text + 1; text_len++)
-                hold(d.bytes, d.len, list_len, text_len);
+                hold(&d, under, list_len, text_len);
     }
 }
 
-void try_limits(void)
+void try_limits(const table *t)
 {
     drafts = 0;
-    begin_part("limits");
+    under = t;
+    begin_part(t == NULL ? "limits" : "limits, checked");
     try_draft_lengths();
     try_token_lengths();
     try_string_lengths();

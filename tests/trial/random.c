@@ -1,18 +1,36 @@
-#include <inttypes.h>
-#include <stdio.h>
-
+#include "compare.h"
 #include "grammar.h"
 #include "parts.h"
+#include "passing.h"
+#include "tables.h"
 #include "tally.h"
+#include "tell.h"
+
+static draft d;
+static table t;
 
 /* Drafts come in twos: one as the grammar makes it, and the same damaged. */
-static lots random_draft(uint64_t seed, uint64_t index, draft *d)
+static lots draw_reading(uint64_t seed, uint64_t index)
 {
     lots l = lots_for(seed, index / 2);
 
-    make_draft(&l, d);
+    make_draft(&l, &d);
     if (index % 2 == 1)
-        damage_draft(&l, d);
+        damage_draft(&l, &d);
+    return l;
+}
+
+/* A table and a draft made for it. Some of either are damaged. */
+static lots draw_check(uint64_t seed, uint64_t index)
+{
+    lots l = lots_for(~seed, index);
+
+    draw_table(&l, &t);
+    make_passing(&l, &t, &d);
+    if (one_in(&l, 16))
+        damage_draft(&l, &d);
+    if (one_in(&l, 32))
+        break_rule(&l, &t, (enum rule)below(&l, RULES));
     return l;
 }
 
@@ -26,40 +44,54 @@ static size_t part_of(lots *l, size_t needed)
     return below(l, needed + 1);
 }
 
-/* Reads with ample room, and then with a room that depends on what was held. */
-static vogieburn_answer read_drawn(lots *l, const draft *d)
+/* A call with ample room. */
+static vogieburn_answer hold_amply(const table *under)
 {
-    const vogieburn_answer a = hold(d->bytes, d->len, (d->len + 4) * VOGIEBURN_NUMBERS, d->len + 4);
+    return hold(&d, under, (d.len + 4) * VOGIEBURN_NUMBERS, d.len + 4);
+}
 
-    hold(d->bytes, d->len, part_of(l, (size_t)a.entities) * VOGIEBURN_NUMBERS + below(l, VOGIEBURN_NUMBERS),
+/* A call with ample room, and then one with a room that depends on what was held. */
+static void hold_twice(lots *l, const table *under)
+{
+    const vogieburn_answer a = hold_amply(under);
+
+    hold(&d, under, part_of(l, (size_t)a.entities) * VOGIEBURN_NUMBERS + below(l, VOGIEBURN_NUMBERS),
          part_of(l, (size_t)a.text));
-    return a;
 }
 
 void try_random_drafts(uint64_t seed, uint64_t count)
 {
-    static draft d;
-
     begin_part("random");
     for (uint64_t i = 0; i < count; i++) {
-        lots l = random_draft(seed, i, &d);
+        lots l = draw_reading(seed, i);
 
         begin_draft(i);
-        read_drawn(&l, &d);
+        hold_twice(&l, NULL);
     }
 }
 
-void repeat_random_draft(uint64_t seed, uint64_t index)
+void try_random_checks(uint64_t seed, uint64_t count)
 {
-    static draft d;
-    lots l = random_draft(seed, index, &d);
+    begin_part("random checks");
+    for (uint64_t i = 0; i < count; i++) {
+        lots l = draw_check(seed, i);
+
+        begin_draft(i);
+        hold_twice(&l, &t);
+    }
+}
+
+void repeat_random(uint64_t seed, uint64_t index, bool check)
+{
     vogieburn_answer a;
 
-    begin_part("random");
+    if (check)
+        draw_check(seed, index);
+    else
+        draw_reading(seed, index);
+    begin_part(check ? "random checks" : "random");
     begin_draft(index);
-    a = read_drawn(&l, &d);
-    for (size_t i = 0; i < d.len; i++)
-        printf("%02x", d.bytes[i]);
-    printf("\nnumber %" PRIu64 " place %" PRIu64 " entities %" PRIu64 " text %" PRIu64 " consumed %" PRIu64 "\n", a.number,
-           a.place, a.entities, a.text, a.consumed);
+    a = hold_amply(check ? &t : NULL);
+    tell_call("drawn", &(call){d.bytes, d.len, 0, 0, check ? t.bytes : NULL, t.len});
+    tell_answer("answer", &a);
 }

@@ -1,4 +1,4 @@
-/* The two readers, as functions of one type. */
+/* The calls of the library and of the peer, as functions of two types. */
 #ifndef TRIAL_READERS_H
 #define TRIAL_READERS_H
 
@@ -13,6 +13,15 @@ static inline vogieburn_answer archive_read(const uint8_t *draft, size_t draft_l
                                             uint8_t *text, size_t text_len)
 {
     return vogieburn_read(draft, draft_len, list, list_len, text, text_len);
+}
+
+typedef vogieburn_answer checker(const uint8_t *draft, size_t draft_len, uint32_t *list, size_t list_len, uint8_t *text,
+                                 size_t text_len, const uint8_t *table, size_t table_len);
+
+static inline vogieburn_answer archive_check(const uint8_t *draft, size_t draft_len, uint32_t *list, size_t list_len,
+                                             uint8_t *text, size_t text_len, const uint8_t *table, size_t table_len)
+{
+    return vogieburn_check(draft, draft_len, list, list_len, text, text_len, table, table_len);
 }
 
 #endif

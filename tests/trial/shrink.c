@@ -6,31 +6,26 @@
  * do. */
 enum { EFFORT = 1 << 25 };
 
-static draft tried;
+static mismatch tried;
 static size_t effort;
 
-/* Takes the draft that is being tried, and this room, if they too are read differently. */
-static bool smaller(mismatch *m, size_t list_len, size_t text_len)
+/* Takes the call that is being tried, if it too is answered differently. */
+static bool smaller(mismatch *m)
 {
-    const reading r = {tried.bytes, tried.len, list_len, text_len};
-    verdict v;
+    const call c = call_of(&tried);
 
-    effort += tried.len + 1;
-    if (effort > EFFORT || same(&r, &v))
+    effort += tried.draft.len + tried.table.len + 1;
+    if (effort > EFFORT || same(&c, &tried.v))
         return false;
-    memcpy(&m->draft, &tried, sizeof tried);
-    m->r = r;
-    m->r.draft = m->draft.bytes;
-    m->v = v;
+    *m = tried;
     return true;
 }
 
-static bool without(mismatch *m, size_t at, size_t count)
+/* Takes `count` bytes out of others. */
+static void cut(uint8_t *bytes, size_t *len, size_t at, size_t count)
 {
-    tried.len = 0;
-    put_bytes(&tried, m->draft.bytes, at);
-    put_bytes(&tried, m->draft.bytes + at + count, m->draft.len - at - count);
-    return smaller(m, m->r.list_len, m->r.text_len);
+    memmove(bytes + at, bytes + at + count, *len - at - count);
+    *len -= count;
 }
 
 /* Pieces of half the draft go first, then of a quarter, and so on down to single bytes. */
@@ -39,8 +34,11 @@ static void drop_bytes(mismatch *m)
     for (size_t count = m->draft.len / 2 + 1; count > 0; count /= 2)
         for (size_t at = m->draft.len; at > 0;) {
             at = at > count ? at - count : 0;
-            if (at + count <= m->draft.len)
-                without(m, at, count);
+            if (at + count > m->draft.len)
+                continue;
+            tried = *m;
+            cut(tried.draft.bytes, &tried.draft.len, at, count);
+            smaller(m);
         }
 }
 
@@ -49,11 +47,20 @@ static void plain_bytes(mismatch *m)
 {
     for (size_t i = 0; i < m->draft.len; i++)
         for (const char *plain = "a "; *plain != '\0' && m->draft.bytes[i] != (uint8_t)*plain; plain++) {
-            memcpy(&tried, &m->draft, sizeof tried);
-            tried.bytes[i] = (uint8_t)*plain;
-            if (smaller(m, m->r.list_len, m->r.text_len))
+            tried = *m;
+            tried.draft.bytes[i] = (uint8_t)*plain;
+            if (smaller(m))
                 break;
         }
+}
+
+static void drop_operations(mismatch *m)
+{
+    for (size_t i = operations_of(&m->table); i > 0; i--) {
+        tried = *m;
+        cut(tried.table.bytes, &tried.table.len, (i - 1) * sizeof *tried.table.operations, sizeof *tried.table.operations);
+        smaller(m);
+    }
 }
 
 /* As `smaller`, but both answers keep their numbers: a want of room would hide what was found. */
@@ -61,24 +68,30 @@ static bool less_room(mismatch *m, size_t list_len, size_t text_len)
 {
     static mismatch found;
 
-    memcpy(&found, m, sizeof found);
-    if (!smaller(m, list_len, text_len))
+    found = tried = *m;
+    tried.list_len = list_len;
+    tried.text_len = text_len;
+    if (!smaller(m))
         return false;
     if (m->v.archive.number == found.v.archive.number && m->v.peer.number == found.v.peer.number)
         return true;
-    memcpy(m, &found, sizeof found);
+    *m = found;
     return false;
 }
 
 static void shrink_room(mismatch *m)
 {
-    memcpy(&tried, &m->draft, sizeof tried);
-    for (size_t less = m->r.list_len; less > 0; less /= 2)
-        while (m->r.list_len >= less && less_room(m, m->r.list_len - less, m->r.text_len))
+    for (size_t less = m->list_len; less > 0; less /= 2)
+        while (m->list_len >= less && less_room(m, m->list_len - less, m->text_len))
             continue;
-    for (size_t less = m->r.text_len; less > 0; less /= 2)
-        while (m->r.text_len >= less && less_room(m, m->r.list_len, m->r.text_len - less))
+    for (size_t less = m->text_len; less > 0; less /= 2)
+        while (m->text_len >= less && less_room(m, m->list_len, m->text_len - less))
             continue;
+}
+
+static size_t size(const mismatch *m)
+{
+    return m->draft.len + m->table.len + m->list_len + m->text_len;
 }
 
 void shrink(mismatch *m)
@@ -87,9 +100,10 @@ void shrink(mismatch *m)
 
     effort = 0;
     do {
-        before = m->draft.len + m->r.list_len + m->r.text_len;
+        before = size(m);
+        drop_operations(m);
         drop_bytes(m);
         plain_bytes(m);
         shrink_room(m);
-    } while (m->draft.len + m->r.list_len + m->r.text_len < before);
+    } while (size(m) < before);
 }

@@ -1,18 +1,26 @@
-/* What is left of a draft that is read differently when all is taken away that does not matter. */
+/* What is left of a call that is answered differently when all is taken away that does not matter. */
 #ifndef TRIAL_SHRINK_H
 #define TRIAL_SHRINK_H
 
 #include "compare.h"
 #include "draft.h"
+#include "table.h"
 
-/* A draft that is not read the same, the room for it, and how it is read. `r.draft` leads to the bytes of `draft`. */
+/* A call that is not answered the same, with bytes of its own, and how it is answered. */
 typedef struct {
     draft draft;
-    reading r;
+    table table;
+    bool check;
+    size_t list_len, text_len;
     verdict v;
 } mismatch;
 
-/* Makes draft and room smaller as long as there is a difference, whichever it is. */
+static inline call call_of(const mismatch *m)
+{
+    return (call){m->draft.bytes, m->draft.len, m->list_len, m->text_len, m->check ? m->table.bytes : NULL, m->table.len};
+}
+
+/* Makes draft, table and room smaller as long as there is a difference, whichever it is. */
 void shrink(mismatch *m);
 
 #endif

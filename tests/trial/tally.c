@@ -1,43 +1,48 @@
 #include "tally.h"
 
-#include <ctype.h>
 #include <inttypes.h>
+#include <signal.h>
 #include <stdio.h>
 #include <stdlib.h>
-#include <string.h>
 #include <time.h>
 
 #include "compare.h"
-#include "draft.h"
 #include "shrink.h"
+#include "tell.h"
 
 /* A line of progress comes after so many drafts. */
 enum { PROGRESS = 2000000 };
 
-static uint64_t the_seed, drafts, readings, met[LAST_REFUSAL + 1];
+/* Readings and checks, how often each answer of theirs was met, and how a success and a refusal are told. */
+typedef struct {
+    uint64_t calls, met[LAST_OF_CHECK + 1];
+    const char *success, *refusal;
+} sort;
 
-/* The part that is being read, what there was before it, and the draft that is being read. */
+static sort sorts[] = {{.success = "read", .refusal = "refused"}, {.success = "checked", .refusal = "check refused"}};
+static sort *const readings = &sorts[false], *const checks = &sorts[true];
+
+static uint64_t the_seed, drafts;
+static const call *being_made;
+
+/* The part that is being made, what there was before it, and the draft that is being made. */
 static struct {
     const char *name;
-    uint64_t drafts, readings, index;
+    uint64_t drafts, readings, checks, index;
     time_t began;
-} part = {"", 0, 0, 0, 0};
-
-void tally_seed(uint64_t seed)
-{
-    the_seed = seed;
-    printf("trial: seed %" PRIu64 "\n", seed);
-}
+} part = {.name = ""};
 
 void begin_part(const char *name)
 {
     if (part.name[0] != '\0')
-        printf("trial: %s: %" PRIu64 " drafts, %" PRIu64 " readings, %.0f s\n", part.name, drafts - part.drafts,
-               readings - part.readings, difftime(time(NULL), part.began));
+        printf("trial: %s: %" PRIu64 " drafts, %" PRIu64 " readings, %" PRIu64 " checks, %.0f s\n", part.name,
+               drafts - part.drafts, readings->calls - part.readings, checks->calls - part.checks,
+               difftime(time(NULL), part.began));
     fflush(stdout);
     part.name = name;
     part.drafts = drafts;
-    part.readings = readings;
+    part.readings = readings->calls;
+    part.checks = checks->calls;
     part.began = time(NULL);
 }
 
@@ -51,92 +56,98 @@ void begin_draft(uint64_t index)
     }
 }
 
-/* ---- a mismatch */
+/* ---- a mismatch, or a stop */
 
-/* One byte, or many that are alike, as text. */
-static void tell_run(uint8_t byte, size_t count)
+static void tell_place(const char *what)
 {
-    const size_t told = count > 8 ? 1 : count;
-
-    for (size_t i = 0; i < told; i++)
-        printf(isprint(byte) ? "%c" : "<%02x>", byte);
-    if (told < count)
-        printf("<%zu times>", count);
+    printf("trial: %s: seed %" PRIu64 ", part '%s', draft %" PRIu64 "\n", what, the_seed, part.name, part.index);
 }
 
-static void tell_draft(const char *what, const mismatch *m)
-{
-    printf("%s: %zu bytes, room for %zu numbers and %zu bytes of text\n", what, m->draft.len, m->r.list_len, m->r.text_len);
-    printf("    hex ");
-    for (size_t i = 0; i < m->draft.len; i++)
-        printf("%02x", m->draft.bytes[i]);
-    printf("\n    text ");
-    for (size_t i = 0, run; i < m->draft.len; i += run) {
-        for (run = 1; i + run < m->draft.len && m->draft.bytes[i + run] == m->draft.bytes[i]; run++)
-            continue;
-        tell_run(m->draft.bytes[i], run);
-    }
-    putchar('\n');
-}
-
-static void tell_answer(const char *who, const vogieburn_answer *a)
-{
-    printf("%s: number %" PRIu64 " place %" PRIu64 " entities %" PRIu64 " text %" PRIu64 " consumed %" PRIu64 " steps %" PRIu64
-           " cells %" PRIu64 "\n",
-           who, a->number, a->place, a->entities, a->text, a->consumed, a->steps, a->cells);
-}
-
-static void tell_mismatch(const char *what, const mismatch *m)
-{
-    tell_draft(what, m);
-    tell_answer("archive", &m->v.archive);
-    tell_answer("peer", &m->v.peer);
-    printf("difference: %s\n", m->v.difference);
-    fflush(stdout);
-}
-
-static void stop(const reading *r, const verdict *v)
+/* Ends the program. Without a table it was a reading. */
+static void end_at_mismatch(const draft *d, const table *t, const call *c, const verdict *v)
 {
     static mismatch m;
 
-    put_bytes(&m.draft, r->draft, r->draft_len);
-    m.r = *r;
-    m.r.draft = m.draft.bytes;
+    m.draft = *d;
+    m.check = t != NULL;
+    if (m.check)
+        m.table = *t;
+    m.list_len = c->list_len;
+    m.text_len = c->text_len;
     m.v = *v;
-    printf("trial: mismatch: seed %" PRIu64 ", part '%s', draft %" PRIu64 "\n", the_seed, part.name, part.index);
+    tell_place("mismatch");
     tell_mismatch("as found", &m);
     shrink(&m);
     tell_mismatch("shrunk", &m);
     exit(1);
 }
 
-/* ---- a reading */
-
-vogieburn_answer hold(const uint8_t *bytes, size_t len, size_t list_len, size_t text_len)
+/* A page was touched by whoever was called, and not while something was being printed. Once it is told the program goes on at the
+ * same instruction, and is stopped. */
+static void tell_stop(int signal, siginfo_t *info, void *context)
 {
-    const reading r = {bytes, len, list_len, text_len};
+    (void)signal;
+    (void)context;
+    tell_place("stopped");
+    if (being_made != NULL)
+        tell_call("as found", being_made);
+    printf("difference: %s\n", stopped_at(info->si_addr));
+    fflush(stdout);
+}
+
+void begin_tally(uint64_t seed)
+{
+    struct sigaction told = {.sa_flags = SA_SIGINFO | (int)SA_RESETHAND};
+
+    told.sa_sigaction = tell_stop;
+    if (sigaction(SIGSEGV, &told, NULL) != 0)
+        perror("trial: sigaction");
+    the_seed = seed;
+    printf("trial: seed %" PRIu64 "\n", seed);
+}
+
+/* ---- a call */
+
+vogieburn_answer hold(const draft *d, const table *t, size_t list_len, size_t text_len)
+{
+    const call c = {d->bytes, d->len, list_len, text_len, t == NULL ? NULL : t->bytes, t == NULL ? 0 : t->len};
+    sort *const s = &sorts[t != NULL];
     verdict v;
 
-    readings++;
-    if (!same(&r, &v))
-        stop(&r, &v);
-    met[v.archive.number]++;
+    s->calls++;
+    being_made = &c;
+    if (!same(&c, &v))
+        end_at_mismatch(d, t, &c, &v);
+    being_made = NULL;
+    s->met[v.archive.number]++;
     return v.archive;
+}
+
+/* Tells the answers of one sort of call. */
+static bool tell_sort(const sort *s)
+{
+    const size_t last = last_refusal(s == checks);
+    bool all = true;
+
+    printf("%s: %" PRIu64 "\n", s->success, s->met[0]);
+    for (size_t i = 1; i <= last; i++)
+        printf("%s %zu: %" PRIu64 "\n", s->refusal, i, s->met[i]);
+    for (size_t i = 0; i <= last; i++)
+        if (s->met[i] == 0) {
+            printf("trial: '%s' %zu was never met, so nothing is shown of it\n", i == 0 ? s->success : s->refusal, i);
+            all = false;
+        }
+    return all;
 }
 
 bool tell_tally(void)
 {
     bool all = true;
 
-    printf("read: %" PRIu64 "\n", met[0]);
-    for (size_t i = 1; i <= LAST_REFUSAL; i++)
-        printf("refused %zu: %" PRIu64 "\n", i, met[i]);
-    for (size_t i = 0; i <= LAST_REFUSAL; i++)
-        if (met[i] == 0) {
-            printf("trial: answer %zu was never met, so nothing is shown of it\n", i);
-            all = false;
-        }
-    printf("trial: %" PRIu64 " readings, seed %" PRIu64 "\n", readings, the_seed);
+    for (const sort *s = sorts; s < sorts + COUNT(sorts); s++)
+        if (s->calls > 0)
+            all = tell_sort(s) && all;
+    printf("trial: %" PRIu64 " readings, %" PRIu64 " checks, seed %" PRIu64 "\n", readings->calls, checks->calls, the_seed);
     printf("trial: %" PRIu64 " drafts, %s\n", drafts, all ? "no mismatch" : "not every answer was met");
     return all;
 }

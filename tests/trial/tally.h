@@ -1,4 +1,4 @@
-/* What the trial has read so far. */
+/* What the trial has held against each other so far. */
 #ifndef TRIAL_TALLY_H
 #define TRIAL_TALLY_H
 
@@ -6,10 +6,12 @@
 #include <stddef.h>
 #include <stdint.h>
 
+#include "draft.h"
+#include "table.h"
 #include "vogieburn.h"
 
-/* The seed is told with every mismatch. */
-void tally_seed(uint64_t seed);
+/* The seed is told with every mismatch. Whoever touches what it may not is told before the program is stopped. */
+void begin_tally(uint64_t seed);
 
 /* Every draft from here on belongs to this part; the part before is told. An empty name only tells. */
 void begin_part(const char *name);
@@ -17,10 +19,12 @@ void begin_part(const char *name);
 /* Begins the next draft of the part. `index` is what it can be found by again. */
 void begin_draft(uint64_t index);
 
-/* Reads a draft with room for so many numbers and bytes. At a mismatch it is shrunk and told, and the program ends. */
-vogieburn_answer hold(const uint8_t *bytes, size_t len, size_t list_len, size_t text_len);
+/* Reads a draft with room for so many numbers and bytes, or checks it, if there is a table. At a mismatch the call is shrunk and
+ * told, and the program ends. */
+vogieburn_answer hold(const draft *d, const table *t, size_t list_len, size_t text_len);
 
-/* Tells how often each answer was met. False if one of the answers that reading has was never met. */
+/* Tells how often each answer was met, of readings and of checks. False if one that there is was never met; if no call of a sort
+ * was made, none is missed. */
 bool tell_tally(void);
 
 #endif
