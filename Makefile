@@ -3,7 +3,7 @@
 # make vectors holds the definitions against tests/vectors
 # make trial   holds the library against the peer in tests/peer; TRIAL has words for it, as --short or --seed N
 # make trial-selftest shows that the trial can fail
-# make bench   measures reading, of the library and of the peer
+# make bench   measures reading beside the peer, and checking beside fast.c; BENCH has a word for it, --times or --check
 # make install PREFIX=DIR puts the library for C, its header and its pkg-config file below DIR
 
 VECTORS = $(addprefix tests/vectors/,read.txt check.txt tail.txt step.txt limits.txt) examples/worked.txt
@@ -31,7 +31,7 @@ trial-selftest: setup
 	@tests/trial/run --selftest
 
 bench: setup
-	@tests/bench/run
+	@tests/bench/run $(BENCH)
 
 install: setup
 	rt staticlib vogieburn

@@ -14,19 +14,18 @@
 #include <stdint.h>
 #include <stdio.h>
 #include <string.h>
-#include <time.h>
 
 #include "draft.h"
 #include "readers.h"
+#include "turns.h"
 
 enum {
     KINDS = 6,
     SIZES = 3,
     READERS = 2,
     ROUNDS = 100,
-    STRING = 1000,         /* bytes of data in each long string, at most */
-    ROOM = 2 * DRAFT_ROOM, /* entities in the list */
-    SHORTEST = 1000000     /* nanoseconds that are timed at once, at least */
+    STRING = 1000,        /* bytes of data in each long string, at most */
+    ROOM = 2 * DRAFT_ROOM /* entities in the list */
 };
 
 /* Words of the command line and of the file of counts, and what the tables call the kinds. */
@@ -104,32 +103,17 @@ static bool read_alike(void)
     return archive.number == 0 && archive.consumed == d.len && memcmp(&archive, &peer, sizeof peer) == 0;
 }
 
-/* Nanoseconds for so many calls. */
-static double timed(size_t who, size_t calls)
+static void read_once(size_t who)
 {
-    struct timespec from, to;
-
-    clock_gettime(CLOCK_MONOTONIC, &from);
-    for (size_t i = 0; i < calls; i++)
-        call(who);
-    clock_gettime(CLOCK_MONOTONIC, &to);
-    return (double)(to.tv_sec - from.tv_sec) * 1e9 + (double)(to.tv_nsec - from.tv_nsec);
+    call(who);
 }
 
-/* Times the draft with both readers; the best of all rounds, for one byte. */
+/* Times the draft with both readers, for one byte. */
 static void measure(double best[READERS])
 {
-    size_t calls = 1;
-
-    while (timed(0, calls) < SHORTEST || timed(1, calls) < SHORTEST)
-        calls *= 2;
-    for (size_t round = 0; round < ROUNDS; round++)
-        for (size_t who = 0; who < READERS; who++) {
-            const double cost = timed(who, calls) / (double)(calls * d.len);
-
-            if (round == 0 || cost < best[who])
-                best[who] = cost;
-        }
+    best_of_turns(read_once, READERS, ROUNDS, best);
+    for (size_t who = 0; who < READERS; who++)
+        best[who] /= (double)d.len;
 }
 
 static bool measure_all(void)
@@ -191,15 +175,6 @@ static int once(const char *kind_word, const char *size_word, const char *reader
 }
 
 /* ---- tables */
-
-/* A quotient, or a dash where something is not known. */
-static void tell_ratio(double of, double to)
-{
-    if (of > 0 && to > 0)
-        printf(" %.2f |", of / to);
-    else
-        printf(" - |");
-}
 
 static void tell_both(const double both[READERS])
 {
