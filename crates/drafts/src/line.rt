@@ -92,7 +92,7 @@ fn put(into: &mut [u8], held: usize, byte: u8, times: u32) -> usize
     n
 }
 
-// How often the byte that ends at a place stands there: `*3` says three times, and what follows it is passed over.
+// How often the byte that ends at a place stands there: `*3` says three times, and what follows it is passed over. So is a `.` alone.
 fn times(line: &[u8], at: usize) -> Found
     ensures { λ r. ⌜ at ≤ r .after ⌝ }
 {
@@ -108,6 +108,12 @@ fn times(line: &[u8], at: usize) -> Found
             }
             return n;
         }
+        if line[at] == b'.' {
+            return Found {
+                value: 1,
+                after: at + 1,
+            };
+        }
     }
     Found {
         value: 1,
@@ -115,7 +121,7 @@ fn times(line: &[u8], at: usize) -> Found
     }
 }
 
-// The bytes at a place, two digits to each: `28*64.207c3b` is 64 times 28, then 20 7c 3b. They end at what is no digit.
+// The bytes at a place, two digits to each: `28*64.20.7c3b` is 64 times 28, then 20 7c 3b. They end at what is no digit.
 pub fn bytes(line: &[u8], from: usize, into: &mut [u8]) -> Laid
     ensures { λ r. ⌜ (from ≤ r .after) × (r .length ≤ length (now (into .exit))) ⌝ }
 {

@@ -1,6 +1,7 @@
-// The drafts of document 01 that are not marked, and more of the same kind for each refusal and each rule of a place. A line of
-// standard input that begins with `R` has a draft, the room and the answer, as tests/vectors/README.md says; the draft is read, and the
-// answer and both buffers are compared whole. Lines that do not hold are named, and the last line counts.
+// The drafts of document 01 that are not marked, and more of the same kind for each refusal, each rule of a place and each rule of cells.
+// A line of standard input that begins with `R` has a draft, the room and the answer, as tests/vectors/README.md says, and the draft is
+// read. One that begins with `C` has a table's bytes behind the room, and steps and cells in the answer, and the draft is checked against
+// the table. The answer and both buffers are compared whole. Lines that do not hold are named, and the last line counts.
 ghost use Prim.Native.Nat.{_+_, _^_, _≤_, _<_};
 ghost use lib.ListN.{length};
 
@@ -9,6 +10,7 @@ mod line;
 use chars::limits;
 use libc::STDIN_FILENO;
 use libc::STDOUT_FILENO;
+use line::Found;
 use line::bytes;
 use line::number;
 use reading::Answer;
@@ -18,6 +20,9 @@ const INPUT: usize = 65536;
 const NUMBERS: usize = 12000;
 
 const TEXT: usize = 16384;
+
+// Four operations, in bytes.
+const TABLE: usize = 1096;
 
 // What the buffers hold before a reading.
 const NUMBER_BEFORE: u32 = 2779096485;
@@ -31,22 +36,40 @@ struct Expected {
     entities: u32,
     text: u32,
     consumed: u32,
+    steps: u32,
+    cells: u32,
     after: usize,
 }
 
-fn said(line: &[u8], from: usize) -> Expected {
+// The next number where a line has it, and else 0.
+fn number_if(has: bool, line: &[u8], from: usize) -> Found {
+    if has {
+        return number(line, from);
+    }
+    Found {
+        value: 0,
+        after: from,
+    }
+}
+
+// Steps and cells stand in the answer of a check only.
+fn said(line: &[u8], from: usize, check: bool) -> Expected {
     let n = number(line, from);
     let place = number(line, n.after);
     let entities = number(line, place.after);
     let text = number(line, entities.after);
     let consumed = number(line, text.after);
+    let steps = number_if(check, line, consumed.after);
+    let cells = number_if(check, line, steps.after);
     Expected {
         number: n.value,
         place: place.value,
         entities: entities.value,
         text: text.value,
         consumed: consumed.value,
-        after: consumed.after,
+        steps: steps.value,
+        cells: cells.value,
+        after: cells.after,
     }
 }
 
@@ -56,8 +79,8 @@ fn same_answer(a: Answer, s: Expected) -> bool {
         && a.entities == s.entities as u64
         && a.text == s.text as u64
         && a.consumed == s.consumed as u64
-        && a.steps == 0
-        && a.cells == 0
+        && a.steps == s.steps as u64
+        && a.cells == s.cells as u64
 }
 
 fn wide(n: u32) -> u64 {
@@ -133,8 +156,8 @@ fn untouched(list: &[u32], from: usize) -> bool {
     true
 }
 
-// Past ` | `, which stands before a line's last bytes.
-fn past_bar(line: &[u8], from: usize) -> usize {
+// Past blanks and `|`, which stand before a line's table and before its last bytes.
+fn past_blanks(line: &[u8], from: usize) -> usize {
     let mut at = from;
     while at < line.len() {
         if line[at] != b' ' {
@@ -150,7 +173,7 @@ fn past_bar(line: &[u8], from: usize) -> usize {
 // Whether a text buffer holds a line's last bytes, and past them what it held before.
 fn same_text(line: &[u8], from: usize, text: &[u8]) -> bool {
     let mut held = [BYTE_BEFORE; TEXT];
-    bytes(line, past_bar(line, from), &mut held);
+    bytes(line, past_blanks(line, from), &mut held);
     check::same(text, &held)
 }
 
@@ -169,48 +192,89 @@ fn least(a: usize, b: usize) -> usize
     b
 }
 
-// What a line asks for: a draft's length, the room for it, and where the answer begins.
+// What a line asks for: a draft's length, the room for it, a table's length, and where the answer begins.
 struct Task {
     length: usize,
     numbers: usize,
     room: usize,
+    table: usize,
     after: usize,
 }
 
-// Lays a line's draft down.
-fn asked(line: &[u8], draft: &mut [u8]) -> Task {
+// Lays a line's draft and its table down. In a line of reading `=>` follows the room, which is no table.
+fn asked(line: &[u8], draft: &mut [u8], table: &mut [u8]) -> Task {
     let laid = bytes(line, 2, draft);
     let entities = number(line, laid.after);
     let room = number(line, entities.after);
+    let operations = bytes(line, past_blanks(line, room.after), table);
     Task {
         length: laid.length,
         numbers: (6 * entities.value) as usize,
         room: room.value as usize,
-        after: room.after,
+        table: operations.length,
+        after: operations.after,
     }
 }
 
-// Reads what a line asks for, as far as the buffers go.
-fn read_asked(a: Task, draft: &[u8], list: &mut [u32], text: &mut [u8]) -> Answer {
+// Calls check, or else read.
+fn call(check: bool, draft: &[u8], list: &mut [u32], text: &mut [u8], table: &[u8]) -> Answer {
+    if check {
+        return checking::check(draft, list, text, table);
+    }
+    reading::read(draft, list, text)
+}
+
+// Calls what a line asks for, as far as the buffers go.
+fn call_asked(
+    check: bool,
+    a: Task,
+    draft: &[u8],
+    list: &mut [u32],
+    text: &mut [u8],
+    table: &[u8],
+) -> Answer {
     let length = least(a.length, draft.len());
     let numbers = least(a.numbers, list.len());
     let room = least(a.room, text.len());
-    reading::read(&draft[..length], &mut list[..numbers], &mut text[..room])
+    let operations = least(a.table, table.len());
+    call(
+        check,
+        &draft[..length],
+        &mut list[..numbers],
+        &mut text[..room],
+        &table[..operations],
+    )
 }
 
-// Whether the reading of a line's draft is as the line says.
-fn holds_in(line: &[u8], draft: &mut [u8], list: &mut [u32], text: &mut [u8]) -> bool {
-    let a = asked(line, draft);
-    let answer = read_asked(a, draft, list, text);
-    let wanted = said(line, a.after);
+fn begins(line: &[u8], with: u8) -> bool {
+    if line.len() == 0 {
+        return false;
+    }
+    line[0] == with
+}
+
+// Whether the answer to a line's draft is as the line says.
+fn holds_in(
+    line: &[u8],
+    draft: &mut [u8],
+    list: &mut [u32],
+    text: &mut [u8],
+    table: &mut [u8],
+) -> bool {
+    let check = begins(line, b'C');
+    let a = asked(line, draft, table);
+    let answer = call_asked(check, a, draft, list, text, table);
+    let wanted = said(line, a.after, check);
     same_answer(answer, wanted) && same_buffers(line, wanted.after, wanted.entities, list, text)
 }
 
+// Draft and table have room for a byte too many, so that one that is too long is refused, and not cut to what would do.
 fn holds(line: &[u8]) -> bool {
     let mut draft = [0u8; limits::DRAFT + 1];
     let mut list = [NUMBER_BEFORE; NUMBERS];
     let mut text = [BYTE_BEFORE; TEXT];
-    holds_in(line, &mut draft, &mut list, &mut text)
+    let mut table = [0u8; TABLE + 1];
+    holds_in(line, &mut draft, &mut list, &mut text, &mut table)
 }
 
 // Where a line ends: its LF, or the end of the input.
@@ -229,10 +293,7 @@ fn line_end(input: &[u8], from: usize) -> usize
 }
 
 fn is_case(line: &[u8]) -> bool {
-    if line.len() == 0 {
-        return false;
-    }
-    line[0] == b'R'
+    begins(line, b'R') || begins(line, b'C')
 }
 
 fn name_line(n: u64) {

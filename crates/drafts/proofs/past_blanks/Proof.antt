@@ -1,9 +1,9 @@
--- `drafts::past_bar` stays within the line and ends: each turn is a byte further.
+-- `drafts::past_blanks` stays within the line and ends: each turn is a byte further.
 use borrow.Author.Needs.{needs}
 use Prim.Native.Nat.{_-_}
 use lib.ListN.{length}
-use Rattle.drafts.proofs.past_bar.Statement.{statement}
-use Rattle.drafts.proofs.past_bar.Tie as tie
+use Rattle.drafts.proofs.past_blanks.Statement.{statement}
+use Rattle.drafts.proofs.past_blanks.Tie as tie
 
 abbrev Inv-loop : tie.InvT-loop
 Inv-loop line from at₀ at = Unit {0}
@@ -35,8 +35,8 @@ loop-again c = search needs
 returns-2 : tie.Need-returns-2 Inv-loop μ-loop
 returns-2 c = search needs
 
-pub past-bar-spec : {M : Type 1} → statement M
-past-bar-spec =
+pub past-blanks-spec : {M : Type 1} → statement M
+past-blanks-spec =
     tie.close
     (tie.spec
     Inv-loop
