@@ -1,6 +1,6 @@
 -- The names defined, as the index and `whats` hold them (specs/Arrays.antt): what is looked up is the entry that is found, a put leaves
 -- them as they are, since it takes a cell of the kind that the name has, and one that is entered is one more.
-use mathlib.Core.Path.{_≡_, refl, _∙_, ap}
+use mathlib.Core.Path.{_≡_, refl, _∙_, ap, ap₂}
 use mathlib.Core.List.{List, _∷_}
 use mathlib.Core.Option.{none, some}
 use Prim.Native.Nat.{ℕ, zero, suc, _+_, _%_, _<_}
@@ -18,7 +18,14 @@ use Rattle.names.proofs.Positions.{position-agrees}
 use Rattle.names.proofs.Entering.{key-before, key-entered}
 use Rattle.cells.specs.Cells.{lookup, changed}
 use Rattle.cells.specs.Kinds.{Checked, of}
+use Rattle.cells.specs.Kept.{textAtIn, textLenIn, textIn}
 use Rattle.cells.specs.Arrays.{nameAt, namesOf, apart}
+
+-- bytes that stand where an entity's text does are that text
+pub its-text :
+    (list text : List ℕ) (i at n : ℕ) → at ≡ textAtIn list i → n ≡ textLenIn list i → take n (drop at text) ≡ textIn list text i
+unfolding textIn
+its-text list text i at n e f = ap₂ (λ n at. take n (drop at text)) f e
 
 pub so-many-names : (text index whats : List ℕ) (n : ℕ) → length (namesOf text index whats n) ≡ n
 unfolding namesOf

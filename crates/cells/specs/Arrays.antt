@@ -8,12 +8,9 @@ use lib.Dec.{leb, ltb}
 use lib.ListN.{length, getD, set}
 use Rattle.chars.specs.Choice.{if_then_else_}
 use Rattle.names.specs.Index.{Indexed, keyOf, position}
-use Rattle.names.specs.Marks.{markOf}
 use Rattle.cells.specs.Cells.{Name, State, Did, goes, stops, Taken, leaves, refuses, Ended}
 use Rattle.cells.specs.Kinds.{Checked, of, count}
-use Rattle.cells.specs.Kept.{textAtIn, textLenIn, textIn}
 use Rattle.cells.specs.declared.Counts.{Counts}
-use Rattle.cells.specs.declared.naming.Looked.{Looked}
 use Rattle.cells.specs.declared.Move.{Move}
 use Rattle.cells.specs.declared.Move.the-variants.{Goes, Stops}
 use Rattle.cells.specs.declared.Left.{Left}
@@ -97,17 +94,6 @@ ready text cells bases index whats (Stops rule) = Unit
 pub record Agrees (d : Did Checked) (text cells bases index whats : List ℕ) (r : Move) : Type 0 where
   pub same : meant text cells bases index whats r ≡ d
   pub on : ready text cells bases index whats r
-
--- an entity's text was looked up among the first `count` names
-pub record Looks (list : List ℕ) (i : ℕ) (text index : List ℕ) (count : ℕ) (l : Looked) : Type 0 where
-  pub by-name : l .found ≡ position (keyOf text index) (textIn list text i) count
-  pub most : l .found ≤ count
-  pub its-mark : l .mark ≡ markOf (textIn list text i)
-  pub bucket : l .mark .bucket < 512
-  pub first : l .mark .first < 0x100000000
-  pub last : l .mark .last < 0x100000000
-  pub begins : l .begin ≡ textAtIn list i
-  pub so-long : l .size ≡ textLenIn list i
 
 -- what is left of the cells in sight when items are taken
 unfoldable pub leftOf : (cells : List ℕ) → (base : ℕ) → Left → Taken Checked

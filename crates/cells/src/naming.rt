@@ -5,12 +5,12 @@ ghost use mathlib.Core.List.{List};
 ghost use Prim.Native.Nat.{ℕ, _+_, _*_, _<_, _≤_};
 ghost use lib.ListN.{length, take, drop};
 ghost use Rattle.chars.specs.Limits.{limits};
-ghost use Rattle.names.specs.Index.{Indexed, position, keyOf};
+ghost use Rattle.names.specs.Index.{position, keyOf};
 ghost use Rattle.names.specs.Marks.{markOf};
 ghost use Rattle.cells.specs.Cells.{define as defineOf, fetch as fetchOf, assign as assignOf, lookup};
 ghost use Rattle.cells.specs.Kinds.{kinds};
 ghost use Rattle.cells.specs.Kept.{textAtIn, textLenIn, textIn};
-ghost use Rattle.cells.specs.Arrays.{sightOf, namesOf, stateOf, Standing, Hiding, Agrees, Looks};
+ghost use Rattle.cells.specs.Arrays.{sightOf, namesOf, stateOf, Standing, Hiding, Agrees};
 use crate::Counts;
 use crate::Move;
 use crate::kept::text_at_of;
@@ -104,32 +104,6 @@ fn define(
     })
 }
 
-// A name that was looked up: which one it is, counted from 1, or 0 for none, and what it is entered by.
-pub struct Looked {
-    pub found: usize,
-    pub mark: Mark,
-    pub begin: u32,
-    pub size: u32,
-}
-
-// Looks an entity's text up among the first `count` names.
-fn look_up(list: &[u32], i: usize, text: &[u8], index: &[u32; 1792], count: usize) -> Looked
-    requires { ⌜ (i * 6 + 6 ≤ length (now list)) × (textAtIn (now list) i + textLenIn (now list) i ≤ length (now text))
-        × Indexed (now text) (now index) count ⌝ }
-    ensures { λ r. ⌜ Looks (now (list .entry)) i (now (text .entry)) (now (index .entry)) count r ⌝ }
-{
-    let begin = text_at_of(list, i);
-    let size = text_len_of(list, i);
-    let mark = marked(text, wide(begin), wide(size));
-    let found = find(text, index, count, text, wide(begin), wide(size), mark);
-    Looked {
-        found,
-        mark,
-        begin,
-        size,
-    }
-}
-
 // `=`.
 pub fn get(
     list: &[u32],
@@ -147,8 +121,11 @@ pub fn get(
         (lookup (textIn (now (list .entry)) (now (text .entry)) i) (namesOf (now (text .entry)) (now (index .entry)) (now (whats .entry))
         (s .names)))) (now (text .entry)) (now (cells .exit)) bases (now (index .entry)) (now (whats .entry)) r) ⌝ }
 {
-    let l = look_up(list, i, text, index, s.names);
-    fetch(cells, whats, s, l.found)
+    let at = wide(text_at_of(list, i));
+    let n = wide(text_len_of(list, i));
+    let m = marked(text, at, n);
+    let found = find(text, index, s.names, text, at, n, m);
+    fetch(cells, whats, s, found)
 }
 
 // `:` (22 first).
@@ -171,8 +148,11 @@ pub fn put(
     if s.seen == 0 {
         return Move::Stops(22);
     }
-    let l = look_up(list, i, text, index, s.names);
-    store(cells, whats, s, l.found)
+    let at = wide(text_at_of(list, i));
+    let n = wide(text_len_of(list, i));
+    let m = marked(text, at, n);
+    let found = find(text, index, s.names, text, at, n, m);
+    store(cells, whats, s, found)
 }
 
 // `?` and `@` (22 first).
@@ -196,17 +176,11 @@ pub fn fix(
     if s.seen == 0 {
         return Move::Stops(22);
     }
-    let l = look_up(list, i, text, index, s.names);
-    let mark = l.mark;
-    define(
-        cells,
-        index,
-        whats,
-        s,
-        l.found,
-        mark,
-        l.begin,
-        l.size,
-        constant,
-    )
+    let begin = text_at_of(list, i);
+    let size = text_len_of(list, i);
+    let at = wide(begin);
+    let n = wide(size);
+    let m = marked(text, at, n);
+    let found = find(text, index, s.names, text, at, n, m);
+    define(cells, index, whats, s, found, m, begin, size, constant)
 }
