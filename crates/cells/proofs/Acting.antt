@@ -10,8 +10,8 @@ use Rattle.chars.specs.Limits.{Limits}
 use Rattle.chars.proofs.Cases.{either}
 use Rattle.reading.specs.Judging.{kindOf}
 use Rattle.table.specs.Table.{Operation, find}
-use Rattle.cells.specs.Cells.{State, goes, push, hide, show, define, fetch, assign, lookup, operate, act}
-use Rattle.cells.specs.Kinds.{Checked, of, count, kinds}
+use Rattle.rules.specs.Cells.{State, goes, push, hide, show, define, fetch, assign, lookup, operate, act}
+use Rattle.rules.specs.Kinds.{Checked, of, count, kinds}
 use Rattle.cells.specs.Kept.{kindIn, countIn, textIn, entityAt}
 
 module _ (L : Limits) (os : List Operation) (step : ℕ) (s : State Checked) (list text : List ℕ) (i : ℕ) where

@@ -8,8 +8,8 @@ use native.Mathlib.Numerals.{add-one}
 use lib.ListN.{length, getD, set, take, drop, length-set, length-drop}
 use lib.Seq.{length-take-le, take-suc, getD-drop, getD-take}
 use Rattle.chars.specs.Limits.{limits}
-use Rattle.cells.specs.Cells.{leaves, give, given}
-use Rattle.cells.specs.Kinds.{Checked, of, kinds}
+use Rattle.rules.specs.Cells.{leaves, give, given}
+use Rattle.rules.specs.Kinds.{Checked, of, kinds}
 use Rattle.cells.specs.Arrays.{sightOf, hiddenOf, stateOf, stacked, Standing, Hiding, Agrees, laid}
 use Rattle.cells.specs.declared.Counts.{Counts}
 use Rattle.cells.specs.declared.Move.the-variants.{Goes, Stops}

@@ -1,7 +1,7 @@
 -- What was read stands in the buffers: a reading leaves the rows of its entities at the front of the list and their text and data at the
 -- front of the text buffer, and from there each entity can be had again.
 use mathlib.Core.Path.{_≡_, refl, sym, _∙_, ap}
-use mathlib.Core.Bool.{Bool, true, false, _&&_, false≢true}
+use mathlib.Core.Bool.{Bool, true, false, false≢true}
 use mathlib.Core.List.{List, [], _∷_, _++_, append-assoc}
 use Prim.Native.Nat.{ℕ, zero, suc, _+_, _-_, _*_, _<_, _≤_}
 use native.Mathlib.Omega.{arith}
@@ -12,36 +12,12 @@ use borrow.Author.Tests.{eqb-true}
 use Rattle.chars.specs.Choice.{within}
 use Rattle.chars.specs.Limits.{limits}
 use Rattle.chars.proofs.Cases.{either, both}
-use Rattle.reading.specs.Judging.{kindOf}
-use Rattle.reading.specs.Entity.{Kind, Entity, kindNumber, size, sizes, texts, rows}
-use Rattle.reading.specs.Entity.{begin-metacommand, end-metacommand, metacommand-token, metacommand-quoted, metacommand-curly}
-use Rattle.reading.specs.Entity.{begin-group, end-group, array, number, quoted-string, curly-string}
-use Rattle.reading.specs.Entity.{define-variable, define-constant, get, put, operation, end}
+use Rattle.reading.specs.Entity.{Entity, kindNumber, size, texts, rows}
 use Rattle.reading.specs.WellMade.{made, well-made}
 use Rattle.reading.proofs.Listing.{rows-length}
-use Rattle.cells.proofs.Rules.{placeAt}
-use Rattle.cells.specs.Kept.{kindIn, placeIn, textAtIn, textLenIn, dataLenIn, countIn, textIn, entityAt, entitiesFrom, grouped, Held}
-
--- the kind of a kind's number is that kind
-kind-of-number : (k : Kind) → kindOf (kindNumber k) ≡ k
-unfolding kindOf kindNumber
-kind-of-number begin-metacommand = refl
-kind-of-number end-metacommand = refl
-kind-of-number metacommand-token = refl
-kind-of-number metacommand-quoted = refl
-kind-of-number metacommand-curly = refl
-kind-of-number begin-group = refl
-kind-of-number end-group = refl
-kind-of-number array = refl
-kind-of-number number = refl
-kind-of-number quoted-string = refl
-kind-of-number curly-string = refl
-kind-of-number define-variable = refl
-kind-of-number define-constant = refl
-kind-of-number get = refl
-kind-of-number put = refl
-kind-of-number operation = refl
-kind-of-number end = refl
+use Rattle.rules.proofs.Ending.{placeAt}
+use Rattle.cells.proofs.Going.{kind-of-number}
+use Rattle.cells.specs.Kept.{placeIn, textAtIn, textLenIn, textIn, entityAt, entitiesFrom, grouped, Held}
 
 -- what stands behind so many numbers
 behind : (front back : List ℕ) (i k : ℕ) → length front ≡ i * 6 → getD (front ++ back) (i * 6 + k) 0 ≡ getD back k 0

@@ -1,4 +1,3 @@
-pub mod Computes
 pub mod Sight
 pub mod Names
 pub mod Taking
@@ -6,5 +5,4 @@ pub mod Giving
 pub mod Operating
 pub mod Acting
 pub mod Going
-pub mod Rules
 pub mod Keeping

@@ -16,8 +16,8 @@ use Rattle.names.specs.declared.Mark.{Mark}
 use Rattle.names.proofs.Equal.{same-equal}
 use Rattle.names.proofs.Positions.{position-agrees}
 use Rattle.names.proofs.Entering.{key-before, key-entered}
-use Rattle.cells.specs.Cells.{lookup, changed}
-use Rattle.cells.specs.Kinds.{Checked, of}
+use Rattle.rules.specs.Cells.{lookup, changed}
+use Rattle.rules.specs.Kinds.{Checked, of}
 use Rattle.cells.specs.Kept.{textAtIn, textLenIn, textIn}
 use Rattle.cells.specs.Arrays.{nameAt, namesOf, apart}
 

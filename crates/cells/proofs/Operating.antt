@@ -9,8 +9,8 @@ use Rattle.table.specs.Table.{item}
 use Rattle.table.specs.Entered.{sound, rowCount, rowPlace, operationAt}
 use Rattle.table.proofs.Sound.{sound-row}
 use Rattle.table.proofs.Rows.{row-takes, row-gives}
-use Rattle.cells.specs.Cells.{leaves, take-items, given, operate}
-use Rattle.cells.specs.Kinds.{kinds}
+use Rattle.rules.specs.Cells.{leaves, take-items, given, operate}
+use Rattle.rules.specs.Kinds.{kinds}
 use Rattle.cells.specs.Arrays.{sightOf, stateOf, leftOf, meant, ready, Agrees}
 use Rattle.cells.specs.declared.Counts.{Counts}
 use Rattle.cells.specs.declared.Left.{Left}

@@ -11,8 +11,8 @@ use lib.Seq.{getD-set-same, getD-set-other}
 use borrow.Author.Tests.{lt-ltb, le-ltb}
 use Rattle.chars.specs.Limits.{limits}
 use Rattle.chars.proofs.Cases.{either}
-use Rattle.cells.specs.Cells.{State, goes, stops, total, cellsOf, not-too-many, in-sight, innermost, outer, show}
-use Rattle.cells.specs.Kinds.{Checked, of, count, kindOf, kinds}
+use Rattle.rules.specs.Cells.{State, goes, stops, total, cellsOf, not-too-many, in-sight, innermost, outer, show}
+use Rattle.rules.specs.Kinds.{Checked, of, count, kindOf, kinds}
 use Rattle.cells.specs.Arrays.{cellOf, plainOf, sightOf, hiddenOf, stateOf, stacked, Standing, Hiding, meant, ready, Agrees}
 use Rattle.cells.specs.declared.Counts.{Counts}
 use Rattle.cells.specs.declared.Move.the-variants.{Goes, Stops}

@@ -12,8 +12,8 @@ use borrow.Author.Tests.{lt-ltb, le-ltb, eq-eqb, ne-eqb}
 use Rattle.chars.specs.Limits.{limits}
 use Rattle.chars.specs.Choice.{if_then_else_}
 use Rattle.table.specs.Table.{Item, one, array-of, item}
-use Rattle.cells.specs.Cells.{leaves, refuses, all-of, take-array, take-item, take-items}
-use Rattle.cells.specs.Kinds.{Checked, wantedOf, kinds}
+use Rattle.rules.specs.Cells.{leaves, refuses, all-of, take-array, take-item, take-items}
+use Rattle.rules.specs.Kinds.{Checked, wantedOf, kinds}
 use Rattle.cells.specs.Arrays.{cellOf, plainOf, sightOf, leftOf, atMost}
 use Rattle.cells.specs.declared.Left.{Left}
 use Rattle.cells.specs.declared.Left.the-variants.{Leaves, Refuses}

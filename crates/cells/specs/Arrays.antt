@@ -8,8 +8,8 @@ use lib.Dec.{leb, ltb}
 use lib.ListN.{length, getD, set}
 use Rattle.chars.specs.Choice.{if_then_else_}
 use Rattle.names.specs.Index.{Indexed, keyOf, position}
-use Rattle.cells.specs.Cells.{Name, State, Did, goes, stops, Taken, leaves, refuses, Ended}
-use Rattle.cells.specs.Kinds.{Checked, of, count}
+use Rattle.rules.specs.Cells.{Name, State, Did, goes, stops, Taken, leaves, refuses, Ended}
+use Rattle.rules.specs.Kinds.{Checked, of, count}
 use Rattle.cells.specs.declared.Counts.{Counts}
 use Rattle.cells.specs.declared.Move.{Move}
 use Rattle.cells.specs.declared.Move.the-variants.{Goes, Stops}

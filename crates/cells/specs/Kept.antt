@@ -10,8 +10,8 @@ use Rattle.chars.specs.Limits.{Limits, limits}
 use Rattle.reading.specs.Entity.{Entity, kindNumber}
 use Rattle.reading.specs.Judging.{kindOf}
 use Rattle.table.specs.Table.{Operation}
-use Rattle.cells.specs.Cells.{Ended}
-use Rattle.cells.specs.Kinds.{check}
+use Rattle.rules.specs.Cells.{Ended}
+use Rattle.rules.specs.Kinds.{check}
 
 -- a number of an entity's row
 abbrev numberIn : (list : List ℕ) → (entity which : ℕ) → ℕ

@@ -1,4 +1,2 @@
-pub mod Cells
-pub mod Kinds
 pub mod Kept
 pub mod Arrays

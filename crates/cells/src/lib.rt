@@ -3,8 +3,8 @@ ghost use mathlib.Core.Path.{_≡_};
 ghost use mathlib.Core.Bool.{true};
 ghost use Rattle.chars.specs.Limits.{limits};
 ghost use Rattle.table.specs.Entered.{sound, rowCount, operationsOf, Entered};
-ghost use Rattle.cells.specs.Cells.{act as actOf};
-ghost use Rattle.cells.specs.Kinds.{kinds};
+ghost use Rattle.rules.specs.Cells.{act as actOf};
+ghost use Rattle.rules.specs.Kinds.{kinds};
 ghost use Rattle.cells.specs.Kept.{Held, Here, entityAt, checkKept};
 ghost use Rattle.cells.specs.Arrays.{Standing, Hiding, Agrees, stateOf, endedOf};
 

@@ -1,13 +1,12 @@
 -- Two checks under one table whose readings are the same give the same answer and hold the same: behind the table, a check looks at nothing
 -- but what was read. So drafts that agree through an accepted `|;`, and more room than is needed, change nothing.
 use Prim.Native.Nat.{ℕ, _*_, _/_, _≤_}
-use mathlib.Core.Path.{_≡_, refl, sym, _∙_, ap, ap₂}
-use mathlib.Core.Bool.{true, false}
-use mathlib.Core.List.{List, [], _++_}
+use mathlib.Core.Path.{_≡_, refl, sym, _∙_, ap}
+use mathlib.Core.List.{List, _++_}
 use mathlib.Core.Option.{none, some}
 use native.Mathlib.Omega.{arith}
 use lib.Dec.{eqb}
-use lib.ListN.{length, take, drop}
+use lib.ListN.{length, take}
 use lib.Seq.{take-at}
 use contract.Lifetimes.{Lfts}
 use borrow.Author.Tests.{ne-eqb}
@@ -16,15 +15,14 @@ use borrow.Fn.Kinds.{endedOf}
 use denote.Triple.Clauses.{AtExit}
 use Rattle.chars.specs.Limits.{limits}
 use Rattle.chars.proofs.Cases.{either}
-use Rattle.reading.specs.Entity.{Entity, sizes, texts, rows}
-use Rattle.reading.specs.Making.{Room}
+use Rattle.reading.specs.Entity.{sizes, texts, rows}
 use Rattle.reading.specs.Reading.{Read, Reading, reading, readWith, roomOf, answered}
 use Rattle.reading.proofs.Listing.{rows-length, texts-length}
-use Rattle.reading.proofs.Roomier.{Other, Roomier, read-roomier}
+use Rattle.reading.proofs.Roomier.{Other, read-roomier}
 use Rattle.reading.proofs.Through as Through
 use Rattle.table.specs.Table.{Operation, operations}
+use Rattle.rules.proofs.First.{by-option}
 use Rattle.checking.specs.Checking.{checked, unsound, completed, checkedWith, checking}
-use Rattle.checking.proofs.Called.{by-option}
 use Rattle.checking.proofs.Stages.{at-table, at-reading}
 use Rattle.checking.proofs.check as check
 use Rattle.checking.proofs.check.Kinds as kinds

@@ -1,15 +1,12 @@
 -- What is shown of the check, said of the call: of every answer and all buffers that meet the contract of `check` as the source has it. The
 -- contract equates them with the definition, which goes stage by stage; a stage's refusals have numbers of their own (20, 1 to 19, 21 to
 -- 30), so the number tells which stage answered.
-use Prim.Native.Nat.{ℕ, _+_, _*_, _/_, _<_, _≤_}
-use mathlib.Core.Path.{_≡_, refl, sym, _∙_, ap, ap₂}
-use mathlib.Core.Bool.{true, false}
-use mathlib.Core.List.{List, [], _++_}
+use Prim.Native.Nat.{ℕ, _<_, _≤_}
+use mathlib.Core.Path.{_≡_, refl, sym, _∙_}
+use mathlib.Core.List.{List}
 use mathlib.Core.Logic.{_⊎_, ⊎-elim}
-use mathlib.Core.Option.{Option, none, some}
 use native.Mathlib.Omega.{arith}
 use lib.Dec.{eqb}
-use lib.ListN.{length, take, drop}
 use contract.Lifetimes.{Lfts}
 use borrow.Author.Tests.{eqb-true, eqb-false, eq-eqb}
 use borrow.Fn.World.{ArgsD, ResD}
@@ -17,16 +14,16 @@ use borrow.Fn.Kinds.{endedOf}
 use denote.Triple.Clauses.{AtExit}
 use Rattle.chars.specs.Limits.{limits}
 use Rattle.chars.proofs.Cases.{either}
-use Rattle.reading.specs.Entity.{Entity, sizes, texts, rows}
-use Rattle.reading.specs.Making.{Room}
+use Rattle.reading.specs.Entity.{sizes, texts, rows}
 use Rattle.reading.specs.Reading.{Read, Reading, reading, readWith, roomOf, answered}
 use Rattle.reading.specs.declared.Answer.{Answer}
 use Rattle.reading.proofs.Numbers.{read-number, read-long}
 use Rattle.table.specs.Table.{Operation, operations}
-use Rattle.cells.specs.Kinds.{check as checkOf}
+use Rattle.rules.specs.Kinds.{check as checkOf}
 use Rattle.cells.specs.Kept.{placeIn}
 use Rattle.cells.proofs.Keeping.{place-kept}
-use Rattle.cells.proofs.Rules.{check-number, check-passes, check-stops}
+use Rattle.rules.proofs.Ending.{check-number, check-passes, check-stops}
+use Rattle.rules.proofs.First.{by-option}
 use Rattle.checking.specs.Checking.{checked, unsound, checking}
 use Rattle.checking.proofs.Stages.{at-table, at-reading, at-check}
 use Rattle.checking.proofs.check as check
@@ -50,10 +47,6 @@ pub record Call (draft list text table : List ℕ) (r : Reading) (a : Answer) (l
   -- a check that passes tells as many steps as entities, and the byte after `;`
   pub passes :
       a .number ≡ 0 → (r .answer .number ≡ 0) × (a .steps ≡ a .entities) × (a .consumed ≡ r .answer .consumed) × (a .place ≡ 0)
-
-pub by-option : {A P : Type 0} (o : Option A) → (o ≡ none → P) → ((a : A) → o ≡ some a → P) → P
-by-option none without with-one = without refl
-by-option (some a) without with-one = with-one a refl
 
 abbrev Of : (draft list text table : List ℕ) → Reading → Type 0
 Of draft list text table c = Call draft list text table (reading limits draft list text) (c .answer) (c .list) (c .text)

@@ -12,7 +12,7 @@ use Rattle.reading.specs.declared.Answer.{Answer}
 use Rattle.checking.specs.Checking.{checkedWith}
 use Rattle.checking.specs.Drafts.{Case, cases, table, ample}
 use Rattle.table.proofs.Computes.{computes as table-computes}
-use Rattle.cells.proofs.Computes.{computes as cells-compute}
+use Rattle.rules.proofs.Computes.{computes as rules-compute}
 use Rattle.checking.proofs.Computes.{computes}
 
 -- what the definitions give for a case's draft
@@ -26,5 +26,5 @@ found c =
     }
 
 pub drafts-hold : map found cases ≡ cases
-unfolding chars-compute tokens-compute reading-computes table-computes cells-compute computes
+unfolding chars-compute tokens-compute reading-computes table-computes rules-compute computes
 drafts-hold = refl

@@ -11,8 +11,8 @@ use Rattle.reading.specs.Reading.{readWith, roomOf, answered, Reading, reading}
 use Rattle.reading.specs.declared.Answer.{Answer}
 use Rattle.reading.proofs.Closed.{closed}
 use Rattle.table.specs.Table.{Operation, operations}
-use Rattle.cells.specs.Cells.{Ended}
-use Rattle.cells.specs.Kinds.{check as checkOf}
+use Rattle.rules.specs.Cells.{Ended}
+use Rattle.rules.specs.Kinds.{check as checkOf}
 use Rattle.cells.specs.Kept.{Held, checkKept}
 use Rattle.cells.proofs.Keeping.{kept, held}
 use Rattle.checking.specs.Checking.{checked, unsound, completed, checkedWith, checking}

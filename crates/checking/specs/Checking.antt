@@ -10,8 +10,8 @@ use Rattle.reading.specs.Entity.{Entity}
 use Rattle.reading.specs.Making.{Room}
 use Rattle.reading.specs.Reading.{Read, Reading, readWith, roomOf, answered}
 use Rattle.table.specs.Table.{Operation, operations}
-use Rattle.cells.specs.Cells.{Ended}
-use Rattle.cells.specs.Kinds.{check}
+use Rattle.rules.specs.Cells.{Ended}
+use Rattle.rules.specs.Kinds.{check}
 
 -- The answer once reading is done: a refusal of reading stands; else the check's own, and the buffers hold the whole reading.
 unfoldable pub checked : Ended → Reading → Reading

@@ -7,11 +7,12 @@ use native.Mathlib.Omega.{arith}
 use Rattle.chars.specs.Limits.{limits}
 use Rattle.names.proofs.Entering.{no-entries}
 use Rattle.table.specs.Entered.{operationsOf}
-use Rattle.cells.specs.Cells.{through, empty}
-use Rattle.cells.specs.Kinds.{kinds, check}
+use Rattle.rules.specs.Cells.{through, empty}
+use Rattle.rules.specs.Kinds.{kinds, check}
 use Rattle.cells.specs.Kept.{entityAt, entitiesFrom, grouped, checkKept}
 use Rattle.cells.specs.Arrays.{sightOf, hiddenOf, namesOf, stateOf, stacked, apart, Standing, Hiding, meant, ready, endedOf}
-use Rattle.cells.proofs.Going.{entities-on, here, stopped, went-on, ended, behind, so-deep}
+use Rattle.cells.proofs.Going.{entities-on, here, counted-on, ended, behind, so-deep}
+use Rattle.rules.proofs.Ending.{stopped-at}
 use Rattle.cells.proofs.Sight.{so-many-cells}
 use borrow.Author.Needs.{needs}
 use Rattle.cells.proofs.check_kept.Statement.{statement}
@@ -84,7 +85,7 @@ returns c =
     let from = entities-on (a .list .now) (a .text .now) (l .i) (a .n) (t .loop-test .taken) in
     let stop = sym (rw (c .before .before .r .given .1) at (after .act .ensures .same)) in
     rw (c .place-of .ensures)
-    (sym (stopped limits kinds os (l .i) _ st _ _ stop) ∙ (ap (through limits kinds os (l .i) st) (sym from) ∙ l .inv .4))
+    (sym (stopped-at limits kinds os (l .i) _ st _ _ stop) ∙ (ap (through limits kinds os (l .i) st) (sym from) ∙ l .inv .4))
 
 enum-known-r-2 : tie.Need-enum-known-r-2 Inv-loop μ-loop
 enum-known-r-2 c = search needs
@@ -120,7 +121,7 @@ loop-again c =
       on .1,
       rw so-deep at (behind limits kinds os 64 (l .i) st e next es went (rw (so-deep (l .cells) (l .bases) (l .s .base) (l .s .depth))
           (rw from at (l .inv .3)))),
-      sym (went-on limits kinds os (l .i) st next e es went) ∙ (ap (through limits kinds os (l .i) st) (sym from) ∙ l .inv .4),
+      sym (counted-on limits kinds os (l .i) st next e es went) ∙ (ap (through limits kinds os (l .i) st) (sym from) ∙ l .inv .4),
     )
 
 add-t21 : tie.Need-add-t21 Inv-loop μ-loop

@@ -15,8 +15,8 @@ use Rattle.names.specs.Index.{keyOf, position, entered}
 use Rattle.names.specs.Marks.{markOf}
 use Rattle.names.specs.declared.Mark.{Mark}
 use Rattle.names.proofs.Entering.{length-entered, indexed-entered}
-use Rattle.cells.specs.Cells.{define, new}
-use Rattle.cells.specs.Kinds.{kinds}
+use Rattle.rules.specs.Cells.{define, new}
+use Rattle.rules.specs.Kinds.{kinds}
 use Rattle.cells.specs.Arrays.{plainOf, sightOf, stateOf, Standing, Hiding, meant, ready, Agrees}
 use Rattle.cells.specs.declared.Counts.{Counts}
 use Rattle.cells.specs.declared.Move.the-variants.{Goes}

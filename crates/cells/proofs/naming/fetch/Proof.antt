@@ -6,7 +6,7 @@ use native.Mathlib.Omega.{arith}
 use lib.ListN.{getD}
 use borrow.Author.Needs.{needs}
 use Rattle.names.specs.Index.{keyOf, position}
-use Rattle.cells.specs.Cells.{fetch}
+use Rattle.rules.specs.Cells.{fetch}
 use Rattle.cells.specs.Arrays.{nameAt, meant, ready}
 use Rattle.cells.proofs.Sight.{small-cell}
 use Rattle.cells.proofs.Names.{lookup-none, lookup-found}

@@ -5,7 +5,7 @@ use native.Mathlib.Omega.{arith}
 use borrow.Author.Needs.{needs}
 use Rattle.names.specs.Index.{keyOf, position}
 use Rattle.names.specs.Marks.{markOf}
-use Rattle.cells.specs.Cells.{define}
+use Rattle.rules.specs.Cells.{define}
 use Rattle.cells.specs.Kept.{textIn}
 use Rattle.cells.specs.Arrays.{sightOf, meant, ready}
 use Rattle.cells.proofs.Names.{its-text}

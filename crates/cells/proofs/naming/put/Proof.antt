@@ -4,7 +4,7 @@ use mathlib.Core.Path.{_≡_, _∙_, ap}
 use native.Mathlib.Omega.{arith}
 use borrow.Author.Needs.{needs}
 use Rattle.names.specs.Index.{keyOf, position}
-use Rattle.cells.specs.Cells.{assign}
+use Rattle.rules.specs.Cells.{assign}
 use Rattle.cells.specs.Kept.{textIn}
 use Rattle.cells.specs.Arrays.{sightOf, meant, ready}
 use Rattle.cells.proofs.Names.{its-text}

@@ -10,8 +10,8 @@ use borrow.Author.Needs.{needs}
 use borrow.Author.Tests.{le-leb, lt-leb, eq-eqb, ne-eqb}
 use Rattle.chars.specs.Limits.{limits}
 use Rattle.names.specs.Index.{keyOf, position}
-use Rattle.cells.specs.Cells.{in-sight, assign, store}
-use Rattle.cells.specs.Kinds.{of, kindOf, kinds}
+use Rattle.rules.specs.Cells.{in-sight, assign, store}
+use Rattle.rules.specs.Kinds.{of, kindOf, kinds}
 use Rattle.cells.specs.Arrays.{cellOf, plainOf, sightOf, nameAt, stateOf, Standing, Hiding, meant, ready, Agrees}
 use Rattle.cells.specs.declared.Counts.{Counts}
 use Rattle.cells.specs.declared.Move.{Move}

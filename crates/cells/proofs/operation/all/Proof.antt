@@ -6,8 +6,8 @@ use native.Mathlib.Omega.{arith}
 use borrow.Author.Needs.{needs}
 use lib.ListN.{take}
 use Rattle.chars.specs.Limits.{limits}
-use Rattle.cells.specs.Cells.{all-of}
-use Rattle.cells.specs.Kinds.{kinds}
+use Rattle.rules.specs.Cells.{all-of}
+use Rattle.rules.specs.Kinds.{kinds}
 use Rattle.cells.specs.Arrays.{sightOf}
 use Rattle.cells.proofs.Taking.{top-of-kind, top-of-other}
 use Rattle.cells.proofs.operation.all.Statement.{statement}

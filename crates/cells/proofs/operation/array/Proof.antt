@@ -3,8 +3,8 @@ use Prim.Native.Nat.{_-_, _≤_}
 use native.Mathlib.Omega.{arith}
 use borrow.Author.Needs.{needs}
 use borrow.Author.Tests.{le-leb, lt-leb, not-true, not-false}
-use Rattle.cells.specs.Cells.{take-array}
-use Rattle.cells.specs.Kinds.{wantedOf}
+use Rattle.rules.specs.Cells.{take-array}
+use Rattle.rules.specs.Kinds.{wantedOf}
 use Rattle.cells.specs.Arrays.{leftOf, atMost}
 use Rattle.cells.proofs.Sight.{small-cell, large-cell, so-many}
 use Rattle.cells.proofs.Taking.{below}

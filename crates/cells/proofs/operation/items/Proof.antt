@@ -8,8 +8,8 @@ use borrow.Author.Needs.{needs}
 use lib.ListN.{getD, take, drop}
 use Rattle.chars.specs.Limits.{limits}
 use Rattle.table.specs.Table.{item}
-use Rattle.cells.specs.Cells.{take-item, take-items}
-use Rattle.cells.specs.Kinds.{kinds}
+use Rattle.rules.specs.Cells.{take-item, take-items}
+use Rattle.rules.specs.Kinds.{kinds}
 use Rattle.cells.specs.Arrays.{sightOf, leftOf, atMost}
 use Rattle.cells.proofs.Taking.{refused, taken}
 use Rattle.cells.proofs.operation.items.Statement.{statement}

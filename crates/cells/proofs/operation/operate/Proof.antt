@@ -9,7 +9,7 @@ use lib.ListN.{take, drop}
 use Rattle.table.specs.Table.{find}
 use Rattle.table.specs.Entered.{operationsOf, operationAt, rowCount, rowPlace}
 use Rattle.table.proofs.Finding.{find-operation}
-use Rattle.cells.specs.Cells.{operate}
+use Rattle.rules.specs.Cells.{operate}
 use Rattle.cells.specs.Kept.{textIn, textAtIn, textLenIn}
 use Rattle.cells.specs.Arrays.{atMost, meant, ready}
 use Rattle.cells.proofs.Operating.{Row, row-known, refused, left}

@@ -5,7 +5,7 @@ use Prim.Native.Nat.{_+_, _<_}
 use native.Mathlib.Omega.{arith}
 use lib.ListN.{length, length-set}
 use borrow.Author.Needs.{needs}
-use Rattle.cells.specs.Cells.{hide}
+use Rattle.rules.specs.Cells.{hide}
 use Rattle.cells.specs.Arrays.{sightOf, stateOf, meant, ready}
 use Rattle.cells.proofs.Sight.{hidden-begun, stacked-begun, still-standing}
 use Rattle.cells.proofs.stack.hide.Statement.{statement}

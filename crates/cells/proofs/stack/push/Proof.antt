@@ -5,7 +5,7 @@ use Prim.Native.Nat.{_+_, _≤_}
 use native.Mathlib.Omega.{arith}
 use lib.ListN.{set, length-set}
 use borrow.Author.Needs.{needs}
-use Rattle.cells.specs.Cells.{push}
+use Rattle.rules.specs.Cells.{push}
 use Rattle.cells.specs.Arrays.{cellOf, sightOf, stateOf}
 use Rattle.cells.proofs.Sight.{so-many, too-many, sight-pushed, hidden-past, not-many}
 use Rattle.cells.proofs.stack.push.Statement.{statement}

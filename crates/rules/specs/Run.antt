@@ -1,11 +1,11 @@
 -- A run: the rules of cells over values (document 01, "Cells and operations"; demand 3).
-use Prim.Native.Nat.{ℕ}
+use Prim.Native.Nat.{ℕ, suc}
 use mathlib.Core.Bool.{Bool}
-use mathlib.Core.List.{List}
+use mathlib.Core.List.{List, [], _∷_}
 use Rattle.chars.specs.Limits.{Limits}
 use Rattle.reading.specs.Entity.{Entity}
 use Rattle.table.specs.Table.{Operation}
-use Rattle.cells.specs.Cells.{Amount, amount, none-by, Cell, Ended, through, empty}
+use Rattle.rules.specs.Cells.{Amount, amount, none-by, Cell, State, goes, stops, Ended, act, through, empty}
 
 -- a whole number: `minus n` is the negative number -(n + 1)
 pub data Whole : Type 0 where
@@ -44,3 +44,15 @@ values bounded given =
 -- A run of a list of entities: it ends with 0 after as many steps as there are entities, or is stuck at an entity by a rule.
 unfoldable pub run : Limits → (bounded : Bool) → Outside → List Operation → List Entity → Ended
 run L bounded given os es = through L (values bounded given) os 0 empty es
+
+-- The states from one on: it stands before the first entity, the next before the second, and one at the end. A run that is stuck at an
+-- entity has none behind it.
+unfoldable pub statesFrom :
+    Limits → {C : Type 0} → Cell C → List Operation → (steps : ℕ) → State C → List Entity → List (State C)
+statesFrom L cell os steps s [] = s ∷ []
+statesFrom L cell os steps s (e ∷ es) =
+    s ∷ elim (act L cell os steps s e) [ stops rule ↦ [] | goes t ↦ statesFrom L cell os (suc steps) t es ]
+
+-- The states of a run: one before each entity that it comes to, and one at the end.
+unfoldable pub states : Limits → (bounded : Bool) → Outside → List Operation → List Entity → List (State Value)
+states L bounded given os es = statesFrom L (values bounded given) os 0 empty es

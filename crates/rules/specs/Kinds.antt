@@ -5,7 +5,7 @@ use mathlib.Core.List.{List}
 use Rattle.chars.specs.Limits.{Limits}
 use Rattle.reading.specs.Entity.{Entity}
 use Rattle.table.specs.Table.{Operation}
-use Rattle.cells.specs.Cells.{Amount, amount, none-by, Cell, Ended, through, empty}
+use Rattle.rules.specs.Cells.{Amount, amount, none-by, Cell, Ended, through, empty}
 
 -- the check keeps a kind for each cell; a count also serves as a number
 pub data Checked : Type 0 where

@@ -1,0 +1,11 @@
+pub mod Computes
+pub mod ByKind
+pub mod Ending
+pub mod First
+pub mod Items
+pub mod Agreeing
+pub mod Steps
+pub mod States
+pub mod Within
+pub mod Following
+pub mod Running
