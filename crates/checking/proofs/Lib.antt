@@ -4,3 +4,5 @@ pub mod Stages
 pub mod Unique
 pub mod Called
 pub mod Alike
+pub mod Runs
+pub mod Running
