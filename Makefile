@@ -6,7 +6,7 @@
 # make bench   measures reading beside the peer, and checking beside fast.c; BENCH has a word for it, --times or --check
 # make install PREFIX=DIR puts the library for C, its header and its pkg-config file below DIR
 
-VECTORS = $(addprefix tests/vectors/,read.txt check.txt tail.txt step.txt limits.txt) examples/worked.txt
+VECTORS = $(addprefix tests/vectors/,read.txt check.txt run.txt tail.txt step.txt limits.txt) examples/worked.txt
 
 DRAFT = $(wildcard examples/*.draft)
 
