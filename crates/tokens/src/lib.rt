@@ -6,7 +6,7 @@ ghost use lib.ListN.{length, getD, drop};
 ghost use Rattle.chars.specs.Limits.{limits};
 ghost use Rattle.chars.specs.Stream.{streamAt};
 ghost use Rattle.tokens.specs.Tokens.{between, bar as barAt, word as wordAt, tokens, first, tokenAt};
-ghost use Rattle.tokens.specs.Runs.{classOf, run as runOf, pastAll, refusalOf};
+ghost use Rattle.tokens.specs.Runs.{classOf, run as runOf, pastBlanks, pastAll, refusalOf};
 
 mod byte;
 pub mod copier;
@@ -20,6 +20,7 @@ use byte::run;
 use byte::until;
 use chars::Character;
 use chars::limits;
+use space::blanks;
 use space::skip;
 use string_data::opened;
 
@@ -242,6 +243,17 @@ pub fn token_at(draft: &[u8], at: usize) -> Token
         };
     }
     token_from(draft, i)
+}
+
+// The first place from a place on that is not whitespace, or the draft's length: a place past the draft is its end.
+pub fn blank_end(draft: &[u8], at: usize) -> usize
+    ensures { λ r. ⌜ (streamAt (now (draft .entry)) r ≡ pastBlanks (streamAt (now (draft .entry)) at))
+        × (r ≤ length (now (draft .entry))) ⌝ }
+{
+    if draft.len() <= at {
+        return draft.len();
+    }
+    blanks(draft, at)
 }
 
 // From `at` on, the place before `end` of the character that ends a word, of class 6 to 9; or 0, where plain characters reach `end` or

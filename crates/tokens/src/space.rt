@@ -10,7 +10,7 @@ use crate::byte::run;
 use chars::Character;
 
 // The first place from `at` on that is not whitespace.
-fn blanks(draft: &[u8], at: usize) -> usize
+pub fn blanks(draft: &[u8], at: usize) -> usize
     requires { ⌜ at ≤ length (now draft) ⌝ }
     ensures { λ r. ⌜ (streamAt (now (draft .entry)) r ≡ pastBlanks (streamAt (now (draft .entry)) at)) × (at ≤ r)
         × (r ≤ length (now (draft .entry))) ⌝ }
