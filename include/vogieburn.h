@@ -1,8 +1,9 @@
-/* Vogieburn: a proved reader of Shastina texts, and a check of them against a table of operations.
+/* Vogieburn: a proved reader of Shastina texts, and a check of them against a table of operations. Beside these it tells whether
+ * only whitespace follows in a draft, and one token of a draft after the other.
  *
  * The library has no state. It allocates nothing, keeps no pointer past a call, writes to no file and calls nothing of the
  * host's, so any number of threads may call it at once, each with a list and a text buffer of its own. The same draft, the same
- * room and the same table always give the same answer.
+ * room, the same table and the same place always give the same answer.
  *
  *     vogieburn_entity list[2000];
  *     uint8_t text[16384];
@@ -69,12 +70,21 @@ enum vogieburn_kind {
  * own. */
 enum vogieburn_cell { VOGIEBURN_CELL_NUMBER = 0, VOGIEBURN_CELL_STRING = 1, VOGIEBURN_CELL_HOUSE = 2, VOGIEBURN_CELL_LAST = 15 };
 
+/* What a token is, as vogieburn_step tells it. */
+enum vogieburn_sort {
+    VOGIEBURN_SORT_SIMPLE = 0,
+    VOGIEBURN_SORT_QUOTED = 1, /* a quoted string, with its prefix */
+    VOGIEBURN_SORT_CURLY = 2,  /* a curly string, with its prefix */
+    VOGIEBURN_SORT_LAST = 3    /* |; */
+};
+
 /* A taken item that is no single cell: an array's count, and below it as many cells of the kind. */
 #define VOGIEBURN_ARRAY_OF(kind) (VOGIEBURN_CELL_LAST + 1 + (kind))
 
 /* Why a draft was refused, and which byte of it answer.place then names. A place is a byte's index in the draft as it was handed
  * over, counted from 0; a byte order mark counts three. "The token" is the first byte of the token being handled, and "the
- * entity" that of the token which brought the entity being checked. Only a check gives those from VOGIEBURN_TABLE_UNSOUND on. */
+ * entity" that of the token which brought the entity being checked. Only a check gives those from VOGIEBURN_TABLE_UNSOUND on, but
+ * for VOGIEBURN_PLACE_PAST_DRAFT, which only a tail gives. A step gives none behind VOGIEBURN_STRING_TOO_LONG. */
 enum vogieburn_refusal {
     VOGIEBURN_DRAFT_TOO_LONG = 1,      /* over 16,384 bytes; place 0 */
     VOGIEBURN_MALFORMED = 2,           /* not UTF-8; the first byte of the sequence */
@@ -105,7 +115,8 @@ enum vogieburn_refusal {
     VOGIEBURN_PUT_TO_CONSTANT = 27,    /* : with a name defined by @; the entity */
     VOGIEBURN_NOT_ONE_CELL = 28,       /* a group, or an array's element, ends without exactly one cell in sight; the entity */
     VOGIEBURN_TOO_MANY_CELLS = 29,     /* over 1,024 cells, hidden ones counted; the entity */
-    VOGIEBURN_TOO_MANY_NAMES = 30      /* over 128 names; the entity */
+    VOGIEBURN_TOO_MANY_NAMES = 30,     /* over 128 names; the entity */
+    VOGIEBURN_PLACE_PAST_DRAFT = 31    /* a tail from a place past the draft; place 0 */
 };
 
 /* One entity of the list: six 32-bit numbers, with nothing between them. */
@@ -118,7 +129,7 @@ typedef struct {
     uint32_t count;    /* of an array: its elements; else 0 */
 } vogieburn_entity;
 
-/* The answer of a call. A number that an answer has no use for is 0. */
+/* The answer of a call, a reading or a check. A number that an answer has no use for is 0. */
 typedef struct {
     uint64_t number;   /* 0 for success, or an enum vogieburn_refusal */
     uint64_t place;    /* of a refusal: its place in the draft */
@@ -128,6 +139,25 @@ typedef struct {
     uint64_t steps;    /* of a check, once the draft is read: how many entities it handled; the refused one is not counted */
     uint64_t cells;    /* of a check's success: how many cells remain */
 } vogieburn_answer;
+
+/* The answer of a tail. */
+typedef struct {
+    uint64_t number; /* 0, or VOGIEBURN_DRAFT_TOO_LONG or VOGIEBURN_PLACE_PAST_DRAFT */
+    uint64_t yes;    /* 1 if only whitespace follows; else 0 */
+    uint64_t place;  /* if something else follows: its first byte; else 0 */
+} vogieburn_tail_answer;
+
+/* The answer of a step: a token, or a refusal. */
+typedef struct {
+    uint64_t number; /* 0 for a token, or an enum vogieburn_refusal */
+    uint64_t place;  /* of a token: its first byte; of a refusal: its place in the draft */
+    uint64_t after;  /* of a token: the index of the byte after it, which for a string is the byte after what closes it */
+    uint64_t sort;   /* of a token: an enum vogieburn_sort */
+    uint64_t prefix; /* of a string: how many bytes its prefix has; of a simple token: how many bytes it has itself; of |; 0 */
+    uint64_t length; /* of a string: how many bytes its data has when clean, as vogieburn_read writes it; else 0 */
+    uint64_t next;   /* the place reached, for the next call: the byte after a token; but after |; or a refusal the place that was
+                        handed over, so that the next call answers the same again */
+} vogieburn_token;
 
 /* One operation of a table, byte for byte; vogieburn_operation_make fills it. Bytes behind the name, behind the items and behind
  * the kinds are 0. An array of at most 256 of these, each with another name, is a sound table. */
@@ -148,6 +178,8 @@ typedef struct {
 
 VOGIEBURN_ASSERT(sizeof(vogieburn_entity) == VOGIEBURN_NUMBERS * sizeof(uint32_t), "an entity is six numbers");
 VOGIEBURN_ASSERT(sizeof(vogieburn_answer) == 7 * sizeof(uint64_t), "an answer is seven numbers");
+VOGIEBURN_ASSERT(sizeof(vogieburn_tail_answer) == 3 * sizeof(uint64_t), "the answer of a tail is three numbers");
+VOGIEBURN_ASSERT(sizeof(vogieburn_token) == 7 * sizeof(uint64_t), "the answer of a step is seven numbers");
 VOGIEBURN_ASSERT(sizeof(vogieburn_operation) == VOGIEBURN_OPERATION_BYTES, "an operation is 274 bytes");
 
 #undef VOGIEBURN_ASSERT
@@ -207,6 +239,46 @@ vogieburn_answer vogieburn_read(const uint8_t *draft, size_t draft_len, uint32_t
 vogieburn_answer vogieburn_check(const uint8_t *draft, size_t draft_len, uint32_t *list, size_t list_len, uint8_t *text,
                                  size_t text_len, const uint8_t *table, size_t table_len);
 
+/* Tells whether only whitespace follows in a draft from a place on. At the answer.consumed of a reading or a check that is whether
+ * nothing more stands behind |;.
+ *
+ * draft, draft_len   as for vogieburn_read.
+ * place              from which byte on; draft_len, behind the last byte, is a place too, and nothing follows there.
+ *
+ * Whitespace is HT, SP, LF, and CR with LF right behind it. Nothing else is: no comment, no byte order mark, no other CR, and no
+ * byte at which reading would refuse the draft.
+ *
+ * The answer's number is VOGIEBURN_DRAFT_TOO_LONG, whatever the place; or else VOGIEBURN_PLACE_PAST_DRAFT for a place greater than
+ * draft_len; or else 0. Then yes is 1 if only whitespace follows, and if not yes is 0 and answer.place the first byte that is none.
+ * A number that an answer has no use for is 0.
+ *
+ * Nothing is written. The caller sees to the same as for vogieburn_read, as far as it goes for a draft. */
+vogieburn_tail_answer vogieburn_tail(const uint8_t *draft, size_t draft_len, uint64_t place);
+
+/* Tells the token of a draft from a place on, as reading uses tokens: whitespace and comments before it are passed over. What tokens
+ * mean to each other, in metacommands, groups and arrays, is nothing to a step.
+ *
+ * draft, draft_len   as for vogieburn_read.
+ * place              from which byte on: 0, or the answer.next of the step before, or any other number. A place past the draft is
+ *                    its end, so that VOGIEBURN_DRAFT_ENDS is the answer. At place 0 a byte order mark is passed over; at any other
+ *                    place it is a character, which is legal in comments and strings alone.
+ *
+ *     vogieburn_token token = {0};
+ *     do {
+ *         token = vogieburn_step(draft, draft_len, token.next);
+ *         if (token.number == 0)
+ *             show(token.sort, draft + token.place, token.after - token.place);
+ *     } while (token.number == 0 && token.sort != VOGIEBURN_SORT_LAST);
+ *
+ * The answer is a token, or a refusal from VOGIEBURN_DRAFT_TOO_LONG to VOGIEBURN_STRING_TOO_LONG with its place. A number that an
+ * answer has no use for is 0. In both cases answer.next is the place to hand over next. After a token it is answer.after. Behind |;
+ * and behind a refusal there is no token: answer.next is then the place that was handed over, and a step from there gives the same
+ * answer, as often as it is called.
+ *
+ * Nothing is written, and nothing is kept: a step looks at the draft anew. The caller sees to the same as for vogieburn_read, as far
+ * as it goes for a draft. */
+vogieburn_token vogieburn_step(const uint8_t *draft, size_t draft_len, uint64_t place);
+
 /* An address for each length of 0. Nothing is read or written there. */
 static inline void *vogieburn_nowhere(void)
 {
@@ -232,6 +304,16 @@ static inline vogieburn_answer vogieburn_check_lent(const uint8_t *draft, size_t
                            VOGIEBURN_LENT(const uint8_t, table));
 }
 
+static inline vogieburn_tail_answer vogieburn_tail_lent(const uint8_t *draft, size_t draft_len, uint64_t place)
+{
+    return vogieburn_tail(VOGIEBURN_LENT(const uint8_t, draft), place);
+}
+
+static inline vogieburn_token vogieburn_step_lent(const uint8_t *draft, size_t draft_len, uint64_t place)
+{
+    return vogieburn_step(VOGIEBURN_LENT(const uint8_t, draft), place);
+}
+
 #undef VOGIEBURN_LENT
 
 #define vogieburn_read(draft, draft_len, list, list_len, text, text_len) \
@@ -239,6 +321,10 @@ static inline vogieburn_answer vogieburn_check_lent(const uint8_t *draft, size_t
 
 #define vogieburn_check(draft, draft_len, list, list_len, text, text_len, table, table_len) \
     vogieburn_check_lent(draft, draft_len, list, list_len, text, text_len, table, table_len)
+
+#define vogieburn_tail(draft, draft_len, place) vogieburn_tail_lent(draft, draft_len, place)
+
+#define vogieburn_step(draft, draft_len, place) vogieburn_step_lent(draft, draft_len, place)
 
 /* Fills one part of an operation: bytes, and zeros behind them. Answers whether they fit, each below `bound`. */
 static inline int vogieburn_operation_part(uint8_t *to, size_t room, unsigned bound, const uint8_t *from, size_t from_len)

@@ -3,6 +3,10 @@ ghost use mathlib.Core.Path.{_≡_};
 ghost use Rattle.chars.specs.Limits.{limits};
 ghost use Rattle.reading.specs.Reading.{reading as readingOf};
 ghost use Rattle.checking.specs.Checking.{checking as checkingOf};
+ghost use Rattle.tokens.specs.Tail.{tail as tailOf};
+ghost use Rattle.tokens.specs.Step.{stepped};
+ghost use Rattle.tail.specs.Answer.{answerOf as tailAnswer};
+ghost use Rattle.step.specs.Answer.{answerOf as stepAnswer};
 use reading::Answer;
 
 // Reads a draft into a lent list and a lent text buffer.
@@ -30,4 +34,20 @@ pub extern "C" fn vogieburn_check(
         .text ⌝ }
 {
     checking::check(draft, list, text, table)
+}
+
+// Whether only whitespace follows a place of a draft.
+#[no_mangle]
+pub extern "C" fn vogieburn_tail(draft: &[u8], place: u64) -> tail::Answer
+    ensures { λ r. ⌜ r ≡ tailAnswer (tailOf limits (now (draft .entry)) place) ⌝ }
+{
+    tail::tail(draft, place as usize)
+}
+
+// The token from a place of a draft on, and the place reached.
+#[no_mangle]
+pub extern "C" fn vogieburn_step(draft: &[u8], place: u64) -> step::Answer
+    ensures { λ r. ⌜ r ≡ stepAnswer place (stepped limits (now (draft .entry)) place) ⌝ }
+{
+    step::step_at(draft, place as usize)
 }
