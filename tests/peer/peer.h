@@ -1,5 +1,5 @@
-/* A second reader of Shastina texts and its check, written from documents 004 and 01, docs/LAYOUT.md and the header, without a look
- * at the library's code.
+/* A second reader of Shastina texts with its check, its tail and its step, written from documents 004 and 01, docs/LAYOUT.md and the
+ * header, without a look at the library's code.
  *
  * PEER_WRONG, a number given when they are compiled, changes one rule, so that a comparison can be shown to find it:
  *   0  no rule is changed;
@@ -19,7 +19,22 @@
  *  14  129 names are let through;
  *  15  a put looks for its name before it looks for a cell: 26 and 27 before 22;
  *  16  two equal names in a table are seen only side by side;
- *  17  29 is looked at before an operation takes its items.
+ *  17  29 is looked at before an operation takes its items;
+ *  18  tail takes a comment for whitespace;
+ *  19  tail takes any CR for whitespace;
+ *  20  tail takes the first place past the draft for its end;
+ *  21  tail takes the draft's end for a place past it;
+ *  22  tail tells the draft's length, wherever what is not whitespace stands;
+ *  23  tail takes a byte order mark for whitespace;
+ *  24  tail looks at 31 before 1;
+ *  25  step goes on behind `|;`;
+ *  26  step goes on behind a refusal, at the next byte;
+ *  27  step takes a byte order mark for a character at place 0 too;
+ *  28  step loses a byte order mark at other places too;
+ *  29  step has no 1;
+ *  30  step tells 7 at the place that it is handed, if that is past the draft;
+ *  31  step tells the length that string data has in the draft, not that of the clean bytes;
+ *  32  tail and step look at the lowest 32 bits of a place only.
  */
 #ifndef PEER_H
 #define PEER_H
@@ -38,5 +53,11 @@ vogieburn_answer peer_read(const uint8_t *draft, size_t draft_len, uint32_t *lis
 /* Checks a draft exactly as vogieburn_check does. The table stays as it is, too. */
 vogieburn_answer peer_check(const uint8_t *draft, size_t draft_len, uint32_t *list, size_t list_len, uint8_t *text,
                             size_t text_len, const uint8_t *table, size_t table_len);
+
+/* Tells what follows exactly as vogieburn_tail does. */
+vogieburn_tail_answer peer_tail(const uint8_t *draft, size_t draft_len, uint64_t place);
+
+/* Tells a token exactly as vogieburn_step does. */
+vogieburn_token peer_step(const uint8_t *draft, size_t draft_len, uint64_t place);
 
 #endif
