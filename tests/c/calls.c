@@ -1,11 +1,16 @@
 #include "calls.h"
 
 #include <inttypes.h>
+#include <stdio.h>
+#include <string.h>
 
 #include "lent.h"
 
 /* The buffers of a call; a reading has no table. */
 enum { DRAFT, LIST, TEXT, TABLE, LENT };
+
+/* The numbers of an answer; a tail's has fewer. */
+enum { NUMBERS = 7, TAIL_NUMBERS = 3 };
 
 static enum spoiled spoiled;
 
@@ -14,14 +19,24 @@ void spoil_with(enum spoiled what)
     spoiled = what;
 }
 
+static void spoil_draft(buffer *draft)
+{
+    switch (spoiled) {
+    case SPOIL_DRAFT: flip(draft, 0); break;
+    case SPOIL_BEFORE_DRAFT: flip(draft, -1); break;
+    case SPOIL_BEHIND_DRAFT: flip(draft, (ptrdiff_t)draft->len); break;
+    default: break;
+    }
+}
+
 static void spoil(const vector *v, vogieburn_answer *answer, buffer lent[LENT])
 {
     buffer *list = &lent[LIST], *text = &lent[TEXT];
 
+    spoil_draft(&lent[DRAFT]);
     switch (spoiled) {
     case SPOIL_STEPS: answer->steps++; break;
     case SPOIL_CELLS: answer->cells++; break;
-    case SPOIL_DRAFT: flip(&lent[DRAFT], 0); break;
     case SPOIL_BEFORE_LIST: flip(list, -1); break;
     case SPOIL_TEXT_AT: flip(list, 2); break;
     case SPOIL_PAST_ROWS: flip(list, (ptrdiff_t)(VOGIEBURN_NUMBERS * v->rows_len)); break;
@@ -32,7 +47,7 @@ static void spoil(const vector *v, vogieburn_answer *answer, buffer lent[LENT])
     case SPOIL_TEXT_END: flip(text, (ptrdiff_t)text->len - 1); break;
     case SPOIL_BEHIND_TEXT: flip(text, (ptrdiff_t)text->len); break;
     case SPOIL_TABLE: flip(&lent[TABLE], 0); break;
-    case SPOIL_NOTHING: break;
+    default: break;
     }
 }
 
@@ -49,17 +64,24 @@ void hold_reading(vector *v)
     v->held_len = (size_t)reading.text;
 }
 
+/* Compares the first `len` numbers of two answers. `what` comes before the name of one that differs. */
+static bool same_numbers(const char *what, const char *const *names, size_t len, const void *got, const void *wanted)
+{
+    uint64_t a[NUMBERS], b[NUMBERS];
+
+    memcpy(a, got, len * sizeof *a);
+    memcpy(b, wanted, len * sizeof *b);
+    for (size_t i = 0; i < len; i++)
+        if (a[i] != b[i])
+            return wrong("%s%s is %" PRIu64 ", not %" PRIu64, what, names[i], a[i], b[i]);
+    return true;
+}
+
 static bool same_answer(const vogieburn_answer *got, const vogieburn_answer *wanted)
 {
-    static const char *const names[] = {"number", "place", "entities", "text", "consumed", "steps", "cells"};
-    const uint64_t a[] = {got->number, got->place, got->entities, got->text, got->consumed, got->steps, got->cells};
-    const uint64_t b[] = {wanted->number,   wanted->place, wanted->entities, wanted->text,
-                          wanted->consumed, wanted->steps, wanted->cells};
+    static const char *const names[NUMBERS] = {"number", "place", "entities", "text", "consumed", "steps", "cells"};
 
-    for (size_t i = 0; i < sizeof a / sizeof *a; i++)
-        if (a[i] != b[i])
-            return wrong("%s is %" PRIu64 ", not %" PRIu64, names[i], a[i], b[i]);
-    return true;
+    return same_numbers("", names, NUMBERS, got, wanted);
 }
 
 /* The answer tells as many entities and text bytes as are to be held. */
@@ -108,4 +130,63 @@ bool holds(const vector *v)
     const size_t list_len = VOGIEBURN_NUMBERS * v->list_room;
 
     return call_holds(v, list_len, true, 1) && call_holds(v, list_len + VOGIEBURN_NUMBERS - 1, false, 2);
+}
+
+/* ---- tails and steps */
+
+static bool same_tail(const vogieburn_tail_answer *got, const vogieburn_tail_answer *wanted)
+{
+    static const char *const names[TAIL_NUMBERS] = {"number", "yes", "place"};
+
+    return same_numbers("", names, TAIL_NUMBERS, got, wanted);
+}
+
+static bool tail_call_holds(const walk *w, bool null, uint32_t seed)
+{
+    buffer draft = lend_bytes("draft byte", w->draft, w->draft_len, seed);
+    const vogieburn_tail_answer answer = vogieburn_tail(start(&draft, null), w->draft_len, w->place);
+    bool same;
+
+    spoil_draft(&draft);
+    same = same_tail(&answer, &w->tail) && same_buffer(&draft);
+    take_back(&draft);
+    return same;
+}
+
+bool tail_holds(const walk *w)
+{
+    return tail_call_holds(w, true, 1) && tail_call_holds(w, false, 2);
+}
+
+static bool same_token(size_t step, const vogieburn_token *got, const vogieburn_token *wanted)
+{
+    static const char *const names[NUMBERS] = {"number", "place", "after", "sort", "prefix", "length", "next"};
+    char what[40];
+
+    snprintf(what, sizeof what, "step %zu: ", step);
+    return same_numbers(what, names, NUMBERS, got, wanted);
+}
+
+static bool step_calls_hold(const walk *w, bool null, uint32_t seed)
+{
+    buffer draft = lend_bytes("draft byte", w->draft, w->draft_len, seed);
+    uint64_t place = w->place;
+    bool same = true;
+
+    for (size_t i = 0; same && i < w->tokens_len; i++) {
+        vogieburn_token token = vogieburn_step(start(&draft, null), w->draft_len, place);
+
+        spoil_draft(&draft);
+        if (spoiled == SPOIL_NEXT)
+            token.next++;
+        same = same_token(i + 1, &token, &w->tokens[i]) && same_buffer(&draft);
+        place = token.next;
+    }
+    take_back(&draft);
+    return same;
+}
+
+bool steps_hold(const walk *w)
+{
+    return step_calls_hold(w, true, 1) && step_calls_hold(w, false, 2);
 }

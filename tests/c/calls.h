@@ -22,6 +22,16 @@ typedef struct {
     size_t held_len;
 } vector;
 
+/* A tail, or steps one after the other, from a place on, and what is to be answered. */
+typedef struct {
+    const uint8_t *draft;
+    size_t draft_len;
+    uint64_t place;
+    vogieburn_tail_answer tail;
+    vogieburn_token *tokens; /* of steps */
+    size_t tokens_len;
+} walk;
+
 /* What can be damaged after a call, as a wrong library might. */
 enum spoiled {
     SPOIL_NOTHING,
@@ -37,7 +47,10 @@ enum spoiled {
     SPOIL_PAST_HELD,
     SPOIL_TEXT_END,
     SPOIL_BEHIND_TEXT,
-    SPOIL_TABLE
+    SPOIL_TABLE,
+    SPOIL_BEFORE_DRAFT,
+    SPOIL_BEHIND_DRAFT,
+    SPOIL_NEXT
 };
 
 /* From now on every call is damaged so. */
@@ -50,5 +63,12 @@ void hold_reading(vector *v);
 /* Makes the call twice, and compares every number of the answer and all that was lent, with its guards. The first call gets null
  * pointers where a length is 0; the second gets addresses, and five numbers of the list to spare, which are room for nothing. */
 bool holds(const vector *v);
+
+/* Makes the call twice, first with a null pointer if the draft has no bytes and then with an address, and compares every number of
+ * the answer, and the draft with its guards. */
+bool tail_holds(const walk *w);
+
+/* The same of steps. Each goes on at the place that the one before it told. */
+bool steps_hold(const walk *w);
 
 #endif

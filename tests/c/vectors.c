@@ -4,7 +4,9 @@
  *
  * Each line of a FILE is `case => answer`, as tests/vectors/README.md says. Every case of reading and of checking is called with the
  * room that the line gives, as calls.h says; a check's buffers are held against what reading the same draft leaves. The tables that
- * checks name stand in tables.txt beside the FILE. A line that does not hold is named; the last line counts: 'N passed, M failed'.
+ * checks name stand in tables.txt beside the FILE. Every case of tail is called at its place, and a case of step as often as the line
+ * says, each time at the place that was reached. Lines of runs are left out, since a run is no call. A line that does not hold is
+ * named; the last line counts: 'N passed, M failed'.
  *
  * With --spoil one thing is damaged after each call, so that every line has to fail: the N of enum spoiled.
  */
@@ -113,6 +115,32 @@ static bool entities(const char **at, vector *v)
     return true;
 }
 
+/* `number,place,after,sort,prefix,data` of a step from `place`. The place reached is the byte after a token, but behind `|;` and behind
+ * a refusal it is the place that was handed over. */
+static bool token(const char **at, uint64_t place, vogieburn_token *t)
+{
+    uint64_t *const told[] = {&t->number, &t->place, &t->after, &t->sort, &t->prefix, &t->length};
+
+    for (size_t i = 0; i < sizeof told / sizeof *told; i++)
+        if ((i > 0 && !word(at, ",")) || !number(at, told[i]))
+            return false;
+    t->next = t->number == 0 && t->sort != VOGIEBURN_SORT_LAST ? t->after : place;
+    return true;
+}
+
+/* As many answers as there are steps, of which there is at least one. */
+static bool tokens(const char **at, walk *w)
+{
+    uint64_t place = w->place;
+
+    for (size_t i = 0; i < w->tokens_len; i++) {
+        if (!token(at, place, &w->tokens[i]))
+            return false;
+        place = w->tokens[i].next;
+    }
+    return w->tokens_len > 0;
+}
+
 /* ---- lines */
 
 /* The draft, and the room for its entities and its text. */
@@ -211,6 +239,36 @@ static bool check_holds(const char *path, const char *at, uint8_t *draft, vector
     return good;
 }
 
+static bool draft_and_place(const char **at, uint8_t *draft, walk *w)
+{
+    w->draft = draft;
+    return octets(at, draft, &w->draft_len) && number(at, &w->place);
+}
+
+static bool tail_line_holds(const char *at, uint8_t *draft)
+{
+    walk w = {0};
+
+    if (draft_and_place(&at, draft, &w) && word(&at, "=> T ") && number(&at, &w.tail.number) && number(&at, &w.tail.yes) &&
+        number(&at, &w.tail.place) && *at == '\0')
+        return tail_holds(&w);
+    return wrong("cannot be read");
+}
+
+static bool step_line_holds(const char *at, uint8_t *draft)
+{
+    walk w = {0};
+    bool good = false;
+
+    if (draft_and_place(&at, draft, &w) && length(&at, &w.tokens_len) && word(&at, "=> S ")) {
+        w.tokens = room(w.tokens_len * sizeof *w.tokens);
+        good = tokens(&at, &w) && *at == '\0';
+    }
+    good = good ? steps_hold(&w) : wrong("cannot be read");
+    free(w.tokens);
+    return good;
+}
+
 /* Holds one line. */
 static bool line_holds(const char *path, const char *line)
 {
@@ -220,8 +278,12 @@ static bool line_holds(const char *path, const char *line)
 
     if (word(&line, "C "))
         good = check_holds(path, line, draft, &v);
+    else if (word(&line, "R "))
+        good = reading_holds(line, draft, &v);
+    else if (word(&line, "T "))
+        good = tail_line_holds(line, draft);
     else
-        good = word(&line, "R ") ? reading_holds(line, draft, &v) : wrong("cannot be read");
+        good = word(&line, "S ") ? step_line_holds(line, draft) : wrong("cannot be read");
     free(draft);
     free(v.rows);
     free(v.held);
@@ -234,9 +296,9 @@ typedef struct {
     size_t passed, failed;
 } counts;
 
-static bool is_of_another_call(const char *line)
+static bool is_of_a_run(const char *line)
 {
-    return line[0] != '\0' && strchr("TS", line[0]) != NULL && line[1] == ' ';
+    return strncmp(line, "G ", 2) == 0;
 }
 
 /* Holds the lines of one file; a file without any fails. */
@@ -251,7 +313,7 @@ static void hold_file(const char *path, counts *n)
     while (file != NULL && getline(&line, &size, file) >= 0) {
         now_held("%s:%zu", path, ++line_number);
         line[strcspn(line, "\n")] = '\0';
-        if (line[0] == '\0' || is_of_another_call(line))
+        if (line[0] == '\0' || is_of_a_run(line))
             continue;
         if (line_holds(path, line))
             n->passed++;
@@ -262,7 +324,7 @@ static void hold_file(const char *path, counts *n)
     if (file != NULL)
         fclose(file);
     if (n->passed + n->failed == before) {
-        wrong("no line of reading or checking");
+        wrong("no line of a call");
         n->failed++;
     }
 }
