@@ -11,10 +11,21 @@
 #include "table.h"
 
 _Static_assert(sizeof(vogieburn_entity) == VOGIEBURN_NUMBERS * sizeof(uint32_t), "entities have no gaps");
-_Static_assert(sizeof(vogieburn_answer) == 7 * sizeof(uint64_t), "answers have no gaps");
+_Static_assert(sizeof(any_answer) == NUMBERS * sizeof(uint64_t), "answers have no gaps");
 
-/* A reading is lent all but the table. */
+const char *const number_names[SORTS][NUMBERS] = {
+    [READING] = {"number", "place", "entities", "text", "consumed", "steps", "cells"},
+    [CHECK] = {"number", "place", "entities", "text", "consumed", "steps", "cells"},
+    [TAIL] = {"number", "yes", "place"},
+    [STEP] = {"number", "place", "after", "sort", "prefix", "length", "next"},
+};
+
 enum { LIST, TEXT, DRAFT, TABLE, BUFFERS };
+
+/* What each sort of call is lent: the buffers from the first on, up to the one that is left out. */
+static const struct {
+    size_t first, end;
+} lent_to[SORTS] = {[READING] = {LIST, TABLE}, [CHECK] = {LIST, BUFFERS}, [TAIL] = {DRAFT, TABLE}, [STEP] = {DRAFT, TABLE}};
 
 static const char *const buffer_names[BUFFERS] = {"list", "text", "draft", "table"};
 
@@ -33,15 +44,19 @@ typedef struct {
     const char *name;
     reader *read;
     checker *check;
+    tail_teller *tail;
+    stepper *step;
     enum page page;
     buffer lent[BUFFERS];
 } caller;
 
 /* The library is called twice, so that a page stands on either side of what it is lent. */
 static caller callers[] = {
-    {.name = "peer", .read = peer_read, .check = peer_check, .page = PAGE_BEHIND},
-    {.name = "archive", .read = archive_read, .check = archive_check, .page = PAGE_BEHIND},
-    {.name = "archive behind pages", .read = archive_read, .check = archive_check, .page = PAGE_BEFORE},
+    {.name = "peer", .read = peer_read, .check = peer_check, .tail = peer_tail, .step = peer_step, .page = PAGE_BEHIND},
+    {.name = "archive", .read = archive_read, .check = archive_check, .tail = archive_tail, .step = archive_step,
+     .page = PAGE_BEHIND},
+    {.name = "archive behind pages", .read = archive_read, .check = archive_check, .tail = archive_tail, .step = archive_step,
+     .page = PAGE_BEFORE},
 };
 static caller *const peer = &callers[0];
 
@@ -87,11 +102,6 @@ static const uint8_t *pattern(void)
     return bytes + turn % TURNS;
 }
 
-static size_t buffers_of(const call *c)
-{
-    return c->table == NULL ? TABLE : BUFFERS;
-}
-
 static void lend_all(caller *by, const call *c)
 {
     const uint8_t *const guard = pattern(), *const any = guard + GUARD;
@@ -99,10 +109,12 @@ static void lend_all(caller *by, const call *c)
     if (by->lent[LIST].first == NULL)
         for (size_t i = 0; i < BUFFERS; i++)
             make_buffer(&by->lent[i], buffer_names[i], most_bytes[i]);
-    lend(&by->lent[LIST], by->page, any, c->list_len * sizeof(uint32_t), guard);
-    lend(&by->lent[TEXT], by->page, any, c->text_len, guard);
+    if (!has_place(c->sort)) {
+        lend(&by->lent[LIST], by->page, any, c->list_len * sizeof(uint32_t), guard);
+        lend(&by->lent[TEXT], by->page, any, c->text_len, guard);
+    }
     lend(&by->lent[DRAFT], by->page, c->draft, c->draft_len, guard);
-    if (c->table != NULL)
+    if (c->sort == CHECK)
         lend(&by->lent[TABLE], by->page, c->table, c->table_len, guard);
 }
 
@@ -130,23 +142,28 @@ const char *stopped_at(const void *byte)
 /* ---- what came back */
 
 /* Bytes of a buffer that an answer tells to be held. Draft and table are no place to hold anything. */
-static size_t held(const vogieburn_answer *a, size_t which)
+static size_t held(const any_answer *a, size_t which)
 {
     switch (which) {
-    case LIST: return (size_t)a->entities * sizeof(vogieburn_entity);
-    case TEXT: return (size_t)a->text;
+    case LIST: return (size_t)a->reading.entities * sizeof(vogieburn_entity);
+    case TEXT: return (size_t)a->reading.text;
     default: return 0;
     }
 }
 
-/* Whether a caller left alone what its answer does not say to be held. */
-static bool kept(const caller *by, const call *c, const vogieburn_answer *a, verdict *v)
+static bool holds_more(const call *c, const any_answer *a)
 {
-    if (a->number > last_refusal(c->table != NULL))
-        return differ(v, "the %s answers %" PRIu64 ", which is no refusal of this call", by->name, a->number);
-    if (a->entities > c->list_len / VOGIEBURN_NUMBERS || a->text > c->text_len)
+    return !has_place(c->sort) && (a->reading.entities > c->list_len / VOGIEBURN_NUMBERS || a->reading.text > c->text_len);
+}
+
+/* Whether a caller left alone what its answer does not say to be held. */
+static bool kept(const caller *by, const call *c, const any_answer *a, verdict *v)
+{
+    if (!is_number_of(c->sort, a->numbers[0]))
+        return differ(v, "the %s answers %" PRIu64 ", which is no refusal of this call", by->name, a->numbers[0]);
+    if (holds_more(c, a))
         return differ(v, "the %s tells that it holds more than there is room for", by->name);
-    for (size_t i = 0; i < buffers_of(c); i++) {
+    for (size_t i = lent_to[c->sort].first; i < lent_to[c->sort].end; i++) {
         const uint8_t *const at = touched(&by->lent[i], held(a, i));
 
         if (at != NULL)
@@ -155,25 +172,21 @@ static bool kept(const caller *by, const call *c, const vogieburn_answer *a, ver
     return true;
 }
 
-static bool same_answers(const caller *by, verdict *v)
+static bool same_answers(const caller *by, const call *c, verdict *v)
 {
-    static const char *const names[] = {"number", "place", "entities", "text", "consumed", "steps", "cells"};
-    uint64_t archive[COUNT(names)], other[COUNT(names)];
+    const uint64_t *const archive = v->archive.numbers, *const other = v->peer.numbers;
 
-    if (memcmp(&v->archive, &v->peer, sizeof v->peer) == 0)
-        return true;
-    memcpy(archive, &v->archive, sizeof archive);
-    memcpy(other, &v->peer, sizeof other);
-    for (size_t i = 0; i < COUNT(names); i++)
+    for (size_t i = 0; i < numbers_of(c->sort); i++)
         if (archive[i] != other[i])
-            return differ(v, "%s: %" PRIu64 " by the %s, %" PRIu64 " by the peer", names[i], archive[i], by->name, other[i]);
+            return differ(v, "%s: %" PRIu64 " by the %s, %" PRIu64 " by the peer", number_names[c->sort][i], archive[i], by->name,
+                          other[i]);
     return true;
 }
 
-/* Whether both hold the same bytes; their answers are the same. */
-static bool same_held(const caller *by, verdict *v)
+/* Whether both hold the same bytes; their answers are the same. Only what is lent before the draft can hold any. */
+static bool same_held(const caller *by, const call *c, verdict *v)
 {
-    for (size_t i = LIST; i <= TEXT; i++) {
+    for (size_t i = lent_to[c->sort].first; i < DRAFT; i++) {
         const uint8_t *const archive = by->lent[i].bytes, *const other = peer->lent[i].bytes;
         size_t at = 0;
 
@@ -188,55 +201,69 @@ static bool same_held(const caller *by, verdict *v)
 
 /* ---- a call */
 
-/* Damages what a wrong caller might: one of the answer's seven numbers, or of a buffer its first byte, one that is not held, or
- * its guard's first or last. A call that holds too little for that is left as it is. */
-static void spoil(caller *by, const call *c, vogieburn_answer *a)
+/* Damages one byte of a buffer: its first one, one that is not held, or its guard's first or last. A call that holds too little for
+ * that is left as it is. */
+static void spoil_buffer(const caller *by, const any_answer *a, size_t which, size_t way)
 {
-    const size_t way = (spoiled - 1) / COUNT(callers);
-    uint64_t numbers[7];
+    const buffer *const b = &by->lent[which];
+    const size_t first_kept = held(a, which);
+    uint8_t *const at[] = {b->bytes, b->bytes + first_kept, b->guard, b->guard + GUARD - 1};
+
+    if ((which >= DRAFT || first_kept > 0) && first_kept < b->len)
+        *at[way] ^= 1;
+}
+
+/* Damages what a wrong caller might: one of the answer's numbers, or a byte of what it was lent. */
+static void spoil(const caller *by, const call *c, any_answer *a)
+{
+    const size_t way = (spoiled - 1) / COUNT(callers), numbers = numbers_of(c->sort);
 
     if (by != &callers[(spoiled - 1) % COUNT(callers)])
         return;
-    if (way < COUNT(numbers)) {
-        memcpy(numbers, a, sizeof numbers);
-        numbers[way]++;
-        memcpy(a, numbers, sizeof numbers);
-    } else if (way < COUNT(numbers) + 4 * buffers_of(c)) {
-        const size_t which = (way - COUNT(numbers)) / 4;
-        const buffer *const b = &by->lent[which];
-        const size_t first_kept = held(a, which);
-        uint8_t *const at[] = {b->bytes, b->bytes + first_kept, b->guard, b->guard + GUARD - 1};
+    if (way < numbers) {
+        a->numbers[way]++;
+    } else {
+        const size_t which = lent_to[c->sort].first + (way - numbers) / 4;
 
-        if ((which >= DRAFT || first_kept > 0) && first_kept < b->len)
-            *at[(way - COUNT(numbers)) % 4] ^= 1;
+        if (which < lent_to[c->sort].end)
+            spoil_buffer(by, a, which, (way - numbers) % 4);
     }
 }
 
 /* Touches the page beside a buffer: writes there if the buffer is lent to be written. */
 static void touch(const caller *by, const call *c)
 {
-    const size_t which = (touching - 1) / 2;
-    const buffer *const b = &by->lent[which];
-    volatile uint8_t *const past = by->page == PAGE_BEHIND ? b->bytes + b->len : b->bytes - 1;
+    const size_t which = lent_to[c->sort].first + (touching - 1) / 2;
+    const buffer *b;
+    volatile uint8_t *past;
 
-    if ((touching - 1) % 2 != (by->page == PAGE_BEFORE) || which >= buffers_of(c))
+    if ((touching - 1) % 2 != (by->page == PAGE_BEFORE) || which >= lent_to[c->sort].end)
         return;
+    b = &by->lent[which];
+    past = by->page == PAGE_BEHIND ? b->bytes + b->len : b->bytes - 1;
     if (which == LIST || which == TEXT)
         *past = 0;
     else
         (void)*past;
 }
 
-static vogieburn_answer answer(caller *by, const call *c)
+static any_answer answer(caller *by, const call *c)
 {
-    vogieburn_answer a;
+    any_answer a = {{0}};
 
     lend_all(by, c);
-    if (c->table == NULL)
-        a = by->read(pointer(by, DRAFT), c->draft_len, pointer(by, LIST), c->list_len, pointer(by, TEXT), c->text_len);
-    else
-        a = by->check(pointer(by, DRAFT), c->draft_len, pointer(by, LIST), c->list_len, pointer(by, TEXT), c->text_len,
-                      pointer(by, TABLE), c->table_len);
+    switch (c->sort) {
+    case READING:
+        a.reading = by->read(pointer(by, DRAFT), c->draft_len, pointer(by, LIST), c->list_len, pointer(by, TEXT), c->text_len);
+        break;
+    case CHECK:
+        a.reading = by->check(pointer(by, DRAFT), c->draft_len, pointer(by, LIST), c->list_len, pointer(by, TEXT), c->text_len,
+                              pointer(by, TABLE), c->table_len);
+        break;
+    case TAIL: a.tail = by->tail(pointer(by, DRAFT), c->draft_len, c->place); break;
+    case STEP: a.token = by->step(pointer(by, DRAFT), c->draft_len, c->place); break;
+    case SORTS: break;
+    }
     if (spoiled > 0)
         spoil(by, c, &a);
     if (touching > 0 && by != peer)
@@ -253,7 +280,7 @@ bool same(const call *c, verdict *v)
     peer_kept = kept(peer, c, &v->peer, v);
     for (caller *by = peer + 1; by < callers + COUNT(callers); by++) {
         v->archive = answer(by, c);
-        if (!peer_kept || !kept(by, c, &v->archive, v) || !same_answers(by, v) || !same_held(by, v))
+        if (!peer_kept || !kept(by, c, &v->archive, v) || !same_answers(by, c, v) || !same_held(by, c, v))
             return false;
     }
     return true;

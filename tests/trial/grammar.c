@@ -7,7 +7,7 @@ enum { NESTED = 6 };
 
 /* ---- between tokens */
 
-static void white(lots *l, draft *d)
+void put_white(lots *l, draft *d)
 {
     static const piece whites[] = {PIECE(" "), PIECE(" "), PIECE(" "), PIECE("\n"), PIECE("\r\n"), PIECE("\t")};
 
@@ -60,7 +60,7 @@ void put_gap(lots *l, draft *d)
         if (one_in(l, 8))
             comment(l, d);
         else
-            white(l, d);
+            put_white(l, d);
     } while (one_in(l, 4));
 }
 
@@ -144,7 +144,7 @@ void put_metacommand(lots *l, draft *d)
             put_byte(d, (unsigned char)atoms[below(l, sizeof atoms - 1)]);
         } else {
             simple(l, d);
-            white(l, d);
+            put_white(l, d);
         }
     put_byte(d, ';');
 }

@@ -8,6 +8,9 @@
 /* A draft of all that a draft may hold, most often one that can be read to its end. */
 void make_draft(lots *l, draft *d);
 
+/* One whitespace character; CR with LF is one. */
+void put_white(lots *l, draft *d);
+
 /* Whitespace and comments. */
 void put_gap(lots *l, draft *d);
 

@@ -3,20 +3,21 @@
 
 #include "draft.h"
 #include "parts.h"
+#include "places.h"
 #include "tally.h"
 
 static draft d;
 static uint64_t drafts;
+static enum sort sort_now;
 static const table *under; /* the table, if drafts are checked */
 
 /* Makes a call with room for so many entities, then with the room that it took, and with one entity, one number or one byte
  * more or less than that. */
-static void read_around(size_t entities)
+static void hold_around(size_t entities)
 {
     vogieburn_answer a;
     size_t list_len, text_len;
 
-    begin_draft(drafts++);
     a = hold(&d, under, entities * VOGIEBURN_NUMBERS, d.len);
     list_len = (size_t)a.entities * VOGIEBURN_NUMBERS;
     text_len = (size_t)a.text;
@@ -26,6 +27,19 @@ static void read_around(size_t entities)
         hold(&d, under, list_len - 1, text_len);
     if (text_len > 0)
         hold(&d, under, list_len, text_len - 1);
+}
+
+/* Makes the calls of the sort that is tried. Drafts at the limit have too many tokens to be stepped through. */
+static void read_around(size_t entities)
+{
+    begin_draft(drafts++);
+    if (!has_place(sort_now)) {
+        hold_around(entities);
+        return;
+    }
+    ask_at_ends(sort_now, &d);
+    if (sort_now == STEP && d.len < VOGIEBURN_DRAFT_LIMIT / 2)
+        walk(&d);
 }
 
 /* ---- the draft's length */
@@ -43,6 +57,7 @@ static void try_draft_lengths(void)
         {PIECE("#"), PIECE("\xF0\x9F\x98\x80"), PIECE("\n|")},
         {PIECE("%"), PIECE("p\"\xED\xA0\xBD\xED\xB8\x80\""), PIECE(";|;")},
         {PIECE(""), PIECE("(a)"), PIECE("\xED\xA0")},
+        {PIECE("|;"), PIECE("\t\r\n"), PIECE("")},
     };
     static const size_t lengths[] = {
         0, 1, 2, 3, 4, VOGIEBURN_DRAFT_LIMIT - 1, VOGIEBURN_DRAFT_LIMIT, VOGIEBURN_DRAFT_LIMIT + 1, DRAFT_ROOM};
@@ -180,14 +195,21 @@ static void try_rooms(void)
     }
 }
 
-void try_limits(const table *t)
+void try_limits(enum sort sort, const table *t)
 {
+    static const char *const names[SORTS] = {"limits", "limits, checked", "tails at limits", "steps at limits"};
+
     drafts = 0;
+    sort_now = sort;
     under = t;
-    begin_part(t == NULL ? "limits" : "limits, checked");
+    begin_part(names[sort]);
     try_draft_lengths();
+    if (sort == TAIL)
+        return;
     try_token_lengths();
     try_string_lengths();
+    if (sort == STEP)
+        return;
     try_group_depths();
     try_rooms();
 }

@@ -1,4 +1,4 @@
-/* The calls of the library and of the peer, as functions of two types. */
+/* The calls of the library and of the peer, as functions of four types. */
 #ifndef TRIAL_READERS_H
 #define TRIAL_READERS_H
 
@@ -22,6 +22,20 @@ static inline vogieburn_answer archive_check(const uint8_t *draft, size_t draft_
                                              uint8_t *text, size_t text_len, const uint8_t *table, size_t table_len)
 {
     return vogieburn_check(draft, draft_len, list, list_len, text, text_len, table, table_len);
+}
+
+typedef vogieburn_tail_answer tail_teller(const uint8_t *draft, size_t draft_len, uint64_t place);
+
+static inline vogieburn_tail_answer archive_tail(const uint8_t *draft, size_t draft_len, uint64_t place)
+{
+    return vogieburn_tail(draft, draft_len, place);
+}
+
+typedef vogieburn_token stepper(const uint8_t *draft, size_t draft_len, uint64_t place);
+
+static inline vogieburn_token archive_step(const uint8_t *draft, size_t draft_len, uint64_t place)
+{
+    return vogieburn_step(draft, draft_len, place);
 }
 
 #endif

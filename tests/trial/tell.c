@@ -58,17 +58,23 @@ static void tell_table(const uint8_t *bytes, size_t len)
 
 void tell_call(const char *what, const call *c)
 {
-    printf("%s: %zu bytes, room for %zu numbers and %zu bytes of text\n", what, c->draft_len, c->list_len, c->text_len);
+    printf("%s: %zu bytes", what, c->draft_len);
+    if (!has_place(c->sort))
+        printf(", room for %zu numbers and %zu bytes of text", c->list_len, c->text_len);
+    putchar('\n');
     tell_draft(c->draft, c->draft_len);
-    if (c->table != NULL)
+    if (c->sort == CHECK)
         tell_table(c->table, c->table_len);
+    if (has_place(c->sort))
+        printf("    place %" PRIu64 "\n", c->place);
 }
 
-void tell_answer(const char *who, const vogieburn_answer *a)
+void tell_answer(const char *who, enum sort sort, const any_answer *a)
 {
-    printf("%s: number %" PRIu64 " place %" PRIu64 " entities %" PRIu64 " text %" PRIu64 " consumed %" PRIu64 " steps %" PRIu64
-           " cells %" PRIu64 "\n",
-           who, a->number, a->place, a->entities, a->text, a->consumed, a->steps, a->cells);
+    printf("%s:", who);
+    for (size_t i = 0; i < numbers_of(sort); i++)
+        printf(" %s %" PRIu64, number_names[sort][i], a->numbers[i]);
+    putchar('\n');
 }
 
 void tell_mismatch(const char *what, const mismatch *m)
@@ -76,8 +82,8 @@ void tell_mismatch(const char *what, const mismatch *m)
     const call c = call_of(m);
 
     tell_call(what, &c);
-    tell_answer("archive", &m->v.archive);
-    tell_answer("peer", &m->v.peer);
+    tell_answer("archive", m->sort, &m->v.archive);
+    tell_answer("peer", m->sort, &m->v.peer);
     printf("difference: %s\n", m->v.difference);
     fflush(stdout);
 }

@@ -5,10 +5,10 @@
 #include "compare.h"
 #include "shrink.h"
 
-/* The draft, the room, and of a check the table. */
+/* The draft and the room, and of a check the table; or the draft and the place. */
 void tell_call(const char *what, const call *c);
 
-void tell_answer(const char *who, const vogieburn_answer *a);
+void tell_answer(const char *who, enum sort sort, const any_answer *a);
 
 /* The call, both answers, and the difference. */
 void tell_mismatch(const char *what, const mismatch *m);
