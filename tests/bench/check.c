@@ -9,18 +9,16 @@
 #include <stdbool.h>
 #include <stdint.h>
 #include <stdio.h>
-#include <string.h>
 
-#include "fast.h"
+#include "alike.h"
 #include "turns.h"
 #include "weave.h"
 
 enum {
     ROUNDS = 100,
     LENGTH = VOGIEBURN_DRAFT_LIMIT,
-    ROOM = 2 * LENGTH, /* entities in the list */
-    WOVEN = 4,         /* robes that are woven, */
-    ROBES              /* and one of a short draft */
+    WOVEN = 4, /* robes that are woven, */
+    ROBES      /* and one of a short draft */
 };
 
 static const pattern patterns[WOVEN] = {
@@ -31,31 +29,25 @@ static const char *const robe_names[ROBES] = {
 
 static robe robes[ROBES];
 static size_t entities[ROBES]; /* of all drafts of a robe */
-static uint32_t list[VOGIEBURN_NUMBERS * ROOM];
-static uint8_t text[LENGTH];
 
 /* ---- the calls of both */
 
-_Static_assert(sizeof(fast_answer) == sizeof(vogieburn_answer), "both answer the same seven numbers");
-
-static vogieburn_answer archive(const robe *r, bool checks, const uint8_t *draft, size_t draft_len)
+static vogieburn_answer archive(const robe *r, bool checks, const uint8_t *draft, size_t draft_len, buffers *b)
 {
     if (checks)
-        return vogieburn_check(draft, draft_len, list, VOGIEBURN_NUMBERS * ROOM, text, sizeof text, (const uint8_t *)r->table,
-                               r->operations * sizeof *r->table);
-    return vogieburn_read(draft, draft_len, list, VOGIEBURN_NUMBERS * ROOM, text, sizeof text);
+        return vogieburn_check(draft, draft_len, b->list, VOGIEBURN_NUMBERS * ROOM, b->text, sizeof b->text,
+                               (const uint8_t *)r->table, r->operations * sizeof *r->table);
+    return vogieburn_read(draft, draft_len, b->list, VOGIEBURN_NUMBERS * ROOM, b->text, sizeof b->text);
 }
 
-static vogieburn_answer fast(const robe *r, bool checks, const uint8_t *draft, size_t draft_len)
+static fast_answer fast(const robe *r, bool checks, const uint8_t *draft, size_t draft_len, buffers *b)
 {
-    fast_entity *rows = (fast_entity *)(void *)list;
-    const fast_answer f = checks ? fast_check(draft, draft_len, rows, ROOM, text, sizeof text, (const uint8_t *)r->table,
-                                              r->operations * sizeof *r->table)
-                                 : fast_read(draft, draft_len, rows, ROOM, text, sizeof text);
-    vogieburn_answer answer;
+    fast_entity *rows = (fast_entity *)(void *)b->list;
 
-    memcpy(&answer, &f, sizeof answer);
-    return answer;
+    if (checks)
+        return fast_check(draft, draft_len, rows, ROOM, b->text, sizeof b->text, (const uint8_t *)r->table,
+                          r->operations * sizeof *r->table);
+    return fast_read(draft, draft_len, rows, ROOM, b->text, sizeof b->text);
 }
 
 /* Who is called, and for what; a turn is one of each, for each robe. */
@@ -65,6 +57,7 @@ enum { READ, CHECK, READ_EMPTY, CHECK_EMPTY, CALLS };
 /* One call for each draft of a robe. */
 static void call(size_t which)
 {
+    static buffers b;
     const robe *r = &robes[which / (SIDES * CALLS)];
     const size_t side = which / CALLS % SIDES, what = which % CALLS;
     const bool checks = what == CHECK || what == CHECK_EMPTY, empty = what == READ_EMPTY || what == CHECK_EMPTY;
@@ -73,30 +66,33 @@ static void call(size_t which)
         const draft *d = &r->drafts[i];
 
         if (side == ARCHIVE)
-            archive(r, checks, d->bytes, empty ? 0 : d->len);
+            archive(r, checks, d->bytes, empty ? 0 : d->len, &b);
         else
-            fast(r, checks, d->bytes, empty ? 0 : d->len);
+            fast(r, checks, d->bytes, empty ? 0 : d->len, &b);
     }
 }
 
-static bool alike(const robe *r, bool checks, const uint8_t *draft, size_t draft_len)
+/* Whether both leave the same, and what the library answers. */
+static bool alike(const robe *r, bool checks, const uint8_t *draft, size_t draft_len, vogieburn_answer *a)
 {
-    const vogieburn_answer a = archive(r, checks, draft, draft_len), f = fast(r, checks, draft, draft_len);
+    static buffers one, other;
+    const fast_answer f = fast(r, checks, draft, draft_len, &other);
 
-    return memcmp(&a, &f, sizeof a) == 0;
+    *a = archive(r, checks, draft, draft_len, &one);
+    return difference(a, &one, &f, &other) == NULL;
 }
 
-/* Each draft passes the check to its end, and both tell the same of it and of the empty one. Counts entities. */
+/* Each draft passes the check to its end, and both leave the same of it and of the empty one. Counts entities. */
 static bool passes(const robe *r, size_t *count)
 {
     *count = 0;
     for (size_t i = 0; i < DRAFTS; i++) {
         const uint8_t *bytes = r->drafts[i].bytes;
         const size_t len = r->drafts[i].len;
-        const vogieburn_answer a = archive(r, true, bytes, len);
+        vogieburn_answer a;
 
-        if (a.number != 0 || a.consumed != len || a.steps != a.entities || !alike(r, false, bytes, len) ||
-            !alike(r, true, bytes, len) || !alike(r, false, bytes, 0) || !alike(r, true, bytes, 0))
+        if (!alike(r, false, bytes, 0, &a) || !alike(r, true, bytes, 0, &a) || !alike(r, false, bytes, len, &a) ||
+            !alike(r, true, bytes, len, &a) || a.number != 0 || a.consumed != len || a.steps != a.entities)
             return false;
         *count += a.entities;
     }
