@@ -4,7 +4,7 @@
 #include <stdio.h>
 #include <string.h>
 
-#include "lots.h"
+#include "number.h"
 
 enum {
     SEED = 20250101,
@@ -126,15 +126,10 @@ static void put_token(loom *w, const char *sign, const void *bytes, size_t len)
     put_bytes(w->d, bytes, len);
 }
 
-static void put_number(loom *w)
+static void put_literal(loom *w)
 {
-    static const char *const formats[] = {"%zu", "%zu", "-%zu", "+%zu", "%zu.5"};
-    static const size_t bounds[] = {10, 100, 1000, 100000};
-    char digits[20];
-    const size_t n = below(&w->l, bounds[below(&w->l, COUNT(bounds))]);
-    const int len = snprintf(digits, sizeof digits, formats[below(&w->l, COUNT(formats))], n);
-
-    put_token(w, "", digits, (size_t)len);
+    put_token(w, "", "", 0);
+    put_number(w->d, &w->l);
 }
 
 static void put_string(loom *w)
@@ -239,7 +234,7 @@ static void put_value(loom *w, unsigned kind, size_t depth)
     else if (n != NULL && (way <= 4 || kind >= THREAD))
         put_name(w, "=", n);
     else if (kind == NUMBER)
-        put_number(w);
+        put_literal(w);
     else if (kind == STRING)
         put_string(w);
     else
