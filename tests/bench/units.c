@@ -1,0 +1,122 @@
+/* Units of words, of brackets and of metacommands. */
+#include "units.h"
+
+#include "number.h"
+
+/* ---- words and numbers */
+
+void put_word(making *m)
+{
+    static const char signs[] = "?@=:";
+
+    if (one_in(&m->l, 3))
+        put_byte(m->d, (unsigned char)signs[below(&m->l, sizeof signs - 1)]);
+    put_letters(m, 2 + below(&m->l, 10));
+    put_space(m);
+}
+
+void put_one_letter(making *m)
+{
+    put_letters(m, 1);
+    put_space(m);
+}
+
+void put_array(making *m, const char *behind_comma)
+{
+    const size_t len = 1 + below(&m->l, 9);
+
+    put_byte(m->d, '[');
+    for (size_t i = 0; i < len; i++) {
+        if (i > 0) {
+            put_byte(m->d, ',');
+            put_bytes(m->d, behind_comma, strlen(behind_comma));
+        }
+        put_number(m->d, &m->l);
+    }
+    put_byte(m->d, ']');
+}
+
+void put_numbers(making *m)
+{
+    put_array(m, one_in(&m->l, 4) ? "" : " ");
+    put_space(m);
+}
+
+void put_tabbed(making *m)
+{
+    if (one_in(&m->l, 4))
+        put_array(m, "\t");
+    else
+        put_letters(m, 2 + below(&m->l, 10));
+    put_byte(m->d, '\t');
+}
+
+/* ---- brackets */
+
+void put_empty_array(making *m)
+{
+    put_bytes(m->d, "[]", 2);
+    if (!one_in(&m->l, 4))
+        put_space(m);
+}
+
+/* An array of strings of both sorts, some with a prefix. */
+void put_strings(making *m)
+{
+    const size_t len = 1 + below(&m->l, 6);
+
+    put_byte(m->d, '[');
+    for (size_t i = 0; i < len; i++) {
+        const bool curly = one_in(&m->l, 2);
+
+        if (i > 0)
+            put_bytes(m->d, ", ", 2);
+        if (one_in(&m->l, 6))
+            put_letters(m, 1 + below(&m->l, 4));
+        put_opening(m, curly);
+        put_text(m, below(&m->l, 20));
+        put_closing(m, curly);
+    }
+    put_byte(m->d, ']');
+    put_space(m);
+}
+
+/* Groups in each other, at most 60 deep, around a number. */
+void put_groups(making *m)
+{
+    const size_t deep = (span(m, 42, 122) - 2) / 2;
+
+    put_many(m->d, '(', deep);
+    put_byte(m->d, '1' + (unsigned)below(&m->l, 9));
+    put_many(m->d, ')', deep);
+    put_byte(m->d, '\n');
+}
+
+/* ---- metacommands */
+
+/* A blank and a word, a number or a string. */
+static void put_argument(making *m)
+{
+    const size_t way = below(&m->l, 6);
+
+    put_byte(m->d, ' ');
+    if (way < 3) {
+        put_letters(m, 1 + below(&m->l, 8));
+    } else if (way == 3) {
+        put_number(m->d, &m->l);
+    } else {
+        put_opening(m, way == 4);
+        put_text(m, below(&m->l, 12));
+        put_closing(m, way == 4);
+    }
+}
+
+void put_metacommand(making *m)
+{
+    put_byte(m->d, '%');
+    put_letters(m, 1 + below(&m->l, 8));
+    for (size_t left = below(&m->l, 4); left > 0; left--)
+        put_argument(m);
+    put_byte(m->d, ';');
+    put_space(m);
+}
