@@ -3,7 +3,8 @@
 # make vectors holds the definitions against tests/vectors
 # make trial   holds the library against the peer in tests/peer; TRIAL has words for it, as --short or --seed N
 # make trial-selftest shows that the trial can fail
-# make bench   measures reading beside the peer, and checking beside fast.c; BENCH has a word for it, --times or --check
+# make bench   measures reading and checking beside tests/bench/fast.c, and fails where reading does not keep the bar; BENCH has a word
+#              for it, --times or --check
 # make install PREFIX=DIR puts the library for C, its header and its pkg-config file below DIR
 
 VECTORS = $(addprefix tests/vectors/,read.txt check.txt run.txt tail.txt step.txt limits.txt) examples/worked.txt
