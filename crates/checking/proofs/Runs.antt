@@ -1,5 +1,5 @@
 -- Demand 3, said of the call: if an answer and buffers meet the contract of `check` as the source has it and the number is 0, then every
--- run of what the buffers hold goes well. The contract equates them with the definition, which passes what its check of the entities passes.
+-- run of what the buffers hold goes well. The contract equates them with the definition, which passes what its check passes.
 use Prim.Native.Nat.{ℕ}
 use mathlib.Core.Path.{_≡_, refl}
 use mathlib.Core.Bool.{Bool, true}
