@@ -3,12 +3,12 @@
 use mathlib.Core.Path.{_≡_, refl, sym, _∙_, ap}
 use mathlib.Core.Bool.{Bool, true, false}
 use mathlib.Core.List.{List, [], _∷_, _++_, append-nil, append-assoc}
-use Prim.Native.Nat.{ℕ, suc, _+_, _-_, _<_, _≤_}
+use Prim.Native.Nat.{ℕ, zero, suc, _+_, _-_, _<_, _≤_}
 use native.Mathlib.Omega.{arith}
 use native.Mathlib.Numerals.{add-one}
 use lib.Dec.{leb, ltb}
 use lib.ListN.{length, getD, take, drop, set, length-append, length-drop, take-append-drop}
-use lib.Seq.{length-take-le, take-at, drop-at, set-split, drop-drop, take-append-seam, append-snoc, paste}
+use lib.Seq.{length-take-le, take-at, drop-at, set-split, drop-drop, take-append-seam, append-snoc, paste, paste-zero, paste-suc, getD-drop}
 use borrow.Author.Tests.{le-leb, lt-leb, le-ltb, lt-ltb}
 use Rattle.chars.specs.Choice.{if_then_else_}
 use Rattle.chars.specs.Character.{characterAt, encoded, padded}
@@ -20,8 +20,8 @@ use Rattle.tokens.specs.Copy.{copied, copiedInto}
 use Rattle.tokens.proofs.Passing.{class-at}
 use Rattle.tokens.proofs.Classes.{low}
 use Rattle.tokens.proofs.Skipping.{alone-at}
-use Rattle.tokens.specs.declared.Copied.{Copied}
-use Rattle.tokens.specs.declared.Copied.the-variants.{Whole, TooSmall}
+use Rattle.tokens.specs.declared.copier.Copied.{Copied}
+use Rattle.tokens.specs.declared.copier.Copied.the-variants.{Whole, TooSmall}
 
 -- no room, no bytes
 pub clean-zero : (s : Stream) → clean 0 s ≡ []
@@ -120,7 +120,7 @@ module _ (draft : List ℕ) (from n : ℕ) (before : List ℕ) where
       (rw (room, many), rw (room, many, ← whole) (sym (take-append-drop k out) ∙ ap (λ l. take k out ++ l) (c .rest)))
 
   -- a byte that is a character by itself
-  pub advance-byte :
+  advance-byte :
       (out : List ℕ) (i k : ℕ) → Copying out i k → i < length draft → 1 ≤ class-at draft i → k < n
       → Copying (set out k (getD draft i 0)) (i + 1) (k + 1)
   advance-byte out i k c h g l =
@@ -131,6 +131,31 @@ module _ (draft : List ℕ) (from n : ℕ) (before : List ℕ) where
       set-split out k b (omega (arith, c .long, c .fits))
       ∙ rw (size, one, add-one) (sym (append-snoc (take k out) b (drop (suc k) out))) in
       rw size at (advance out i k b (i + 1) c (alone-at draft i h g) (omega (arith, c .within)) (set out k b) is)
+
+  -- bytes that are characters by themselves
+  advance-run :
+      (out : List ℕ) (i k r : ℕ) → Copying out i k → r ≤ length draft - i → k + r ≤ n
+      → ((j : ℕ) → j < r → 1 ≤ class-at draft (i + j)) → Copying (paste out k (drop i draft) r) (i + r) (k + r)
+  advance-run out i k zero c h l g =
+      let here : i + 0 ≡ i = omega arith in
+      let there : k + 0 ≡ k = omega arith in
+      rw (← paste-zero out k (drop i draft), here, there) c
+  advance-run out i k (suc r) c h l g =
+      let here : i + r + 1 ≡ i + suc r = omega arith in
+      let there : k + r + 1 ≡ k + suc r = omega arith in
+      let before-last = advance-run out i k r c (omega arith) (omega arith) (λ j s. g j (omega arith)) in
+      let same = getD-drop i draft r 0 in
+      let stored = paste-suc out k (drop i draft) r 0 (omega (arith, c .long, c .fits)) (omega (arith, length-drop i draft)) in
+      rw (here, there, ← same, stored) at (advance-byte (paste out k (drop i draft) r) (i + r) (k + r) before-last (omega arith)
+      (g r (omega arith)) (omega arith))
+
+  -- the bytes that cleaning leaves as they are, of the `most` that there are
+  pub advance-kept :
+      (out : List ℕ) (i k most r : ℕ) (out′ : List ℕ) → Copying out i k → (most ≤ n - k) × (most ≤ length draft - i)
+      → (r ≤ most) × (out′ ≡ paste out k (drop i draft) r) × ((j : ℕ) → j < r → 1 ≤ class-at draft (i + j))
+      → Copying out′ (i + r) (k + r)
+  advance-kept out i k most r out′ c h g =
+      rw (g .1) (advance-run out i k r c (omega (arith, h .1, g .0)) (omega (arith, h .0, g .0, c .within)) (g .2))
 
   -- a character that is re-encoded
   pub advance-coded :

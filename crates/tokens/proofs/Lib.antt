@@ -10,6 +10,7 @@ pub mod Strings
 pub mod Words
 pub mod Starts
 pub mod Copying
+pub mod Pairs
 pub mod OneByOne
 pub mod Lengths
 pub mod Refused

@@ -6,7 +6,7 @@ ghost use lib.ListN.{length, getD, drop};
 ghost use Rattle.chars.specs.Limits.{limits};
 ghost use Rattle.chars.specs.Stream.{streamAt};
 ghost use Rattle.tokens.specs.Tokens.{between, bar as barAt, word as wordAt, tokens, first, tokenAt};
-ghost use Rattle.tokens.specs.Runs.{classOf, run as runOf, pastBlanks, pastAll, refusalOf};
+ghost use Rattle.tokens.specs.Runs.{classOf, run as runOf, pastBlanks, pastComment, pastAll, refusalOf};
 
 mod byte;
 pub mod copier;
@@ -21,6 +21,7 @@ use byte::until;
 use chars::Character;
 use chars::limits;
 use space::blanks;
+use space::comment;
 use space::skip;
 use string_data::opened;
 
@@ -256,6 +257,18 @@ pub fn blank_end(draft: &[u8], at: usize) -> usize
     blanks(draft, at)
 }
 
+// From a place on, inside a comment, the byte after the LF that ends it, or the place of what ends the draft's characters before: a place
+// past the draft is its end.
+pub fn comment_end(draft: &[u8], at: usize) -> usize
+    ensures { λ r. ⌜ (streamAt (now (draft .entry)) r ≡ pastComment (streamAt (now (draft .entry)) at))
+        × (r ≤ length (now (draft .entry))) × (at ≤ length (now (draft .entry)) → at ≤ r) ⌝ }
+{
+    if draft.len() <= at {
+        return draft.len();
+    }
+    comment(draft, at)
+}
+
 // From `at` on, the place before `end` of the character that ends a word, of class 6 to 9; or 0, where plain characters reach `end` or
 // another character stands first.
 fn ends_at(draft: &[u8], at: usize, end: usize) -> usize
@@ -298,12 +311,4 @@ pub fn word_end(draft: &[u8], at: usize) -> usize
     }
     let end = until(draft.len(), at + 1, limits::TOKEN - 1);
     ends_at(draft, at + 1, end)
-}
-
-// What the copier did.
-pub enum Copied {
-    // So many clean bytes stand at the front of the part.
-    Whole { length: usize },
-    // The part is too small, and nothing was written.
-    TooSmall,
 }

@@ -29,7 +29,7 @@ pub fn blanks(draft: &[u8], at: usize) -> usize
 }
 
 // The byte after the LF that ends a comment, or the place of what ends the draft's characters before.
-fn comment(draft: &[u8], at: usize) -> usize
+pub fn comment(draft: &[u8], at: usize) -> usize
     requires { ⌜ at ≤ length (now draft) ⌝ }
     ensures { λ r. ⌜ (streamAt (now (draft .entry)) r ≡ pastComment (streamAt (now (draft .entry)) at)) × (at ≤ r)
         × (r ≤ length (now (draft .entry))) ⌝ }
