@@ -1,0 +1,11 @@
+pub mod Bytewise
+pub mod Flags
+pub mod Bytes
+pub mod Widths
+pub mod Comments
+pub mod Data
+pub mod Sorts
+pub mod Words
+pub mod Starts
+pub mod Places
+pub mod Finding

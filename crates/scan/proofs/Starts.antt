@@ -1,0 +1,240 @@
+-- How a token begins and how its own bytes end: the laws about characters where no token has begun and behind a token's first, each for the
+-- number that its byte has.
+use mathlib.Core.Path.{_≡_, refl, sym, _∙_, ap}
+use mathlib.Core.Bool.{true, false, false≢true}
+use mathlib.Core.List.{List}
+use Prim.Native.Nat.{ℕ, suc, _+_, _-_, _<_, _≤_}
+use native.Mathlib.Omega.{arith}
+use lib.Dec.{eqb}
+use lib.ListN.{length, getD}
+use borrow.Author.Tests.{eqb-true, eqb-false, eq-eqb}
+use Rattle.chars.specs.Choice.{if_then_else_}
+use Rattle.chars.specs.Limits.{limits}
+use Rattle.chars.specs.Character.{characterAt}
+use Rattle.chars.specs.Stream.{streamAt}
+use Rattle.chars.specs.declared.Character.the-variants.{Clean}
+use Rattle.chars.proofs.Cases.{either}
+use Rattle.chars.proofs.Streams.{at-character}
+use Rattle.tokens.specs.Sorts.{visible, white, atomic, exclusive, inclusive, legal}
+use Rattle.tokens.specs.Tokens.{State, quoted, curly, Tokens, between, bar, word, string, tokens, step, begins, follows, opens}
+use Rattle.tokens.specs.Tokens.{first, tokenAt}
+use Rattle.tokens.specs.Runs.{classOf, sortOf, openedAs, pastAll, pastComment}
+use Rattle.tokens.specs.declared.Token.the-variants.{Simple, Last}
+use Rattle.tokens.proofs.Classes.{plain, opening, is-white, atomic-curly, atomic-other, Atomic}
+use Rattle.tokens.proofs.Skipping.{alone-at, all-remark, no-mark, none-behind}
+use Rattle.tokens.proofs.Starts as starts
+use Rattle.tokens.proofs.Words as words
+use Rattle.scan.specs.Bytes.{beginsOf}
+use Rattle.scan.specs.Found.{Worded}
+use Rattle.scan.specs.Opens.{Opens, Goes, Begun, Ends, Bar}
+use Rattle.scan.proofs.Sorts.{begins-own, begins-white, begins-atomic, begins-curly, begins-opening, begins-bar}
+use Rattle.scan.proofs.Sorts.{begins-word, begins-most, begins-neither, ends-own, ends-ending, ends-opening}
+
+-- the sort of a string by the byte that opens it
+sort-of : (b : ℕ) → inclusive b ≡ true → (if eqb b 0x22 then quoted else curly) ≡ sortOf (eqb b 0x7B)
+unfolding inclusive sortOf
+sort-of b t =
+    either (eqb b 0x22)
+    (λ u. let is = eqb-true b 0x22 u in rw is)
+    (λ u. either (eqb b 0x7B)
+    (λ v. rw (u, v))
+    (λ v. absurd (false≢true (rw (u, v) at t))))
+
+opened-as :
+    (b begun prefix after : ℕ) (rest : State → Tokens) → inclusive b ≡ true
+    → follows (opens b begun prefix after) rest ≡ rest (string (openedAs (eqb b 0x7B) begun prefix after) 0 1 false)
+unfolding opens follows openedAs
+opened-as b begun prefix after rest t = rw (sort-of b t)
+
+above : (k n : ℕ) → n ≤ k → (k ≡ n → ⊥) → suc n ≤ k
+above k n h e = omega arith
+
+last-two : (k : ℕ) → k ≤ 7 → 6 ≤ k → (k ≡ 7 → ⊥) → k ≡ 6
+last-two k h g e = omega arith
+
+-- the number that is left
+sixth :
+    (k : ℕ) → k ≤ 7 → (k ≡ 0 → ⊥) → (k ≡ 1 → ⊥) → (k ≡ 2 → ⊥) → (k ≡ 3 → ⊥) → (k ≡ 4 → ⊥) → (k ≡ 5 → ⊥) → (k ≡ 7 → ⊥) → k ≡ 6
+sixth k h no0 no1 no2 no3 no4 no5 no7 =
+    let three = above k 2 (above k 1 (above k 0 (omega arith) no0) no1) no2 in
+    last-two k h (above k 5 (above k 4 (above k 3 three no3) no4) no5) no7
+
+module _ (draft : List ℕ) (at : ℕ) where
+  -- whitespace is passed over
+  pub blank :
+      (number after : ℕ) → characterAt draft at ≡ Clean number after → white number ≡ true
+      → tokens limits between (streamAt draft at) ≡ tokens limits between (streamAt draft after)
+  unfolding tokens step begins follows
+  blank number after e w = rw (at-character draft at number after e, w)
+
+  pub blank-byte :
+      at < length draft → beginsOf (getD draft at 0) ≡ 1
+      → tokens limits between (streamAt draft at) ≡ tokens limits between (streamAt draft (at + 1))
+  blank-byte h e =
+      let b = getD draft at 0 in
+      let two = begins-white b e in
+      blank b (at + 1) (alone-at draft at h (begins-own b (omega arith))) (is-white b (two .0) (two .1))
+
+  -- CR LF is whitespace
+  pub blank-line :
+      characterAt draft at ≡ Clean 0x0A (at + 2)
+      → tokens limits between (streamAt draft at) ≡ tokens limits between (streamAt draft (at + 2))
+  unfolding white
+  blank-line e = blank 0x0A (at + 2) e refl
+
+  -- a comment is passed over
+  pub remark :
+      (after : ℕ) → at < length draft → getD draft at 0 ≡ 0x23 → streamAt draft after ≡ pastComment (streamAt draft (at + 1))
+      → tokens limits between (streamAt draft at) ≡ tokens limits between (streamAt draft after)
+  remark after h r e =
+      starts.passed limits false (streamAt draft at)
+      ∙ (ap (tokens limits between) (all-remark draft at h r ∙ ap (pastAll false) (sym e))
+      ∙ sym (starts.passed limits false (streamAt draft after)))
+
+  module _ (h : at < length draft) where
+    -- a token alone
+    alone : 3 ≤ beginsOf (getD draft at 0) → Atomic (getD draft at 0) → tokenAt limits draft at ≡ Simple at (at + 1) 1
+    unfolding tokenAt
+    alone k a =
+        let b = getD draft at 0 in
+        let no = begins-neither b k in
+        starts.alone limits draft at b (at + 1) (alone-at draft at h (begins-own b (omega arith))) (no .0) (no .1) (a .is-visible)
+        (a .no-inclusive) (a .is-atomic)
+
+    pub alone-other : beginsOf (getD draft at 0) ≡ 3 → tokenAt limits draft at ≡ Simple at (at + 1) 1
+    alone-other e = let b = getD draft at 0 in alone (omega arith) (atomic-other b (begins-atomic b e))
+
+    pub alone-curly : beginsOf (getD draft at 0) ≡ 7 → tokenAt limits draft at ≡ Simple at (at + 1) 1
+    alone-curly e = let b = getD draft at 0 in alone (omega arith) (atomic-curly b (begins-curly b e))
+
+    -- `|`
+    pub barred :
+        beginsOf (getD draft at 0) ≡ 5 → tokenAt limits draft at ≡ first (tokens limits (bar at) (streamAt draft (at + 1)))
+    unfolding tokenAt classOf visible white atomic exclusive inclusive legal
+    barred e =
+        let b = getD draft at 0 in
+        let is = begins-bar b e in
+        let four : classOf b ≡ 4 = ap classOf is ∙ refl in
+        let p = plain b (omega arith) (omega arith) in
+        starts.barred limits draft at b (at + 1) (alone-at draft at h (omega arith)) (p .no-white) (p .no-remark) (p .is-visible)
+        (p .no-inclusive) (p .no-atomic) (eq-eqb b 0x7C is)
+
+    -- any other token
+    worded :
+        beginsOf (getD draft at 0) ≡ 6 → tokenAt limits draft at ≡ first (tokens limits (word at 1) (streamAt draft (at + 1)))
+    unfolding tokenAt
+    worded e =
+        let b = getD draft at 0 in
+        let is = begins-word b e in
+        let low = is .0 in
+        let p = plain b (is .0) (is .1) in
+        starts.worded limits draft at b (at + 1) (alone-at draft at h (omega arith)) (p .no-white) (p .no-remark) (p .is-visible)
+        (p .no-inclusive) (p .no-atomic) (is .2)
+
+    -- a string without a prefix
+    opened : beginsOf (getD draft at 0) ≡ 4 → Opens draft at at
+    unfolding tokenAt
+    opened e =
+        let b = getD draft at 0 in
+        let two = begins-opening b e in
+        let o = opening b two in
+        let none : 0 ≡ at - at = omega arith in
+        record {
+          is =
+              starts.opened limits draft at b (at + 1) (alone-at draft at h (omega arith)) (o .no-white) (o .no-remark) (o .is-visible)
+              (o .is-inclusive)
+              ∙ (ap first (opened-as b at 0 (at + 1) (λ state. tokens limits state (streamAt draft (at + 1))) (o .is-inclusive))
+              ∙ ap
+              (λ n. first (tokens limits (string (openedAs (eqb b 0x7B) at n (at + 1)) 0 1 false) (streamAt draft (at + 1))))
+              none);
+        }
+
+    -- whatever else begins a token
+    pub begun :
+        (k : ℕ) → k ≡ beginsOf (getD draft at 0) → (k ≡ 0 → ⊥) → (k ≡ 1 → ⊥) → (k ≡ 2 → ⊥) → (k ≡ 3 → ⊥) → (k ≡ 7 → ⊥)
+        → (k ≡ 5 → tokens limits (bar at) (streamAt draft (at + 1)) ≡ tokens limits (word at 1) (streamAt draft (at + 1)))
+        → Begun draft at k
+    begun k e no0 no1 no2 no3 no7 goes-on =
+        let most = begins-most (getD draft at 0) in
+        record {
+          opened = λ four. opened (sym e ∙ four);
+          goes =
+              λ no4.
+              either (eqb k 5)
+              (λ t. let five = eqb-true k 5 t in barred (sym e ∙ five) ∙ ap first (goes-on five))
+              (λ t. let no5 = eqb-false k 5 t in worded (sym e ∙ sixth k (omega arith) no0 no1 no2 no3 no4 no5 no7));
+        }
+
+  -- behind `|`
+  pub bar-end : length draft ≤ at + 1 → Bar draft at false
+  bar-end h =
+      record {
+        ended = λ t. absurd (false≢true t);
+        goes = λ t. starts.no-last limits draft at (at + 1) (λ number after e z. none-behind draft (at + 1) h number after e);
+      }
+
+  pub bar-next : at + 1 < length draft → Bar draft at (eqb (getD draft (at + 1) 0) 0x3B)
+  unfolding classOf visible white atomic exclusive inclusive legal
+  bar-next h =
+      let b = getD draft (at + 1) 0 in
+      let on : at + 1 + 1 ≡ at + 2 = omega arith in
+      record {
+        ended =
+            λ t.
+            let is = eqb-true b 0x3B t in
+            let own : 1 ≤ classOf b = rw is (omega arith) in
+            starts.last limits draft at (at + 1) b (at + 1 + 1) (alone-at draft (at + 1) h own) is ∙ ap (Last at) on;
+        goes =
+            λ t.
+            starts.no-last limits draft at (at + 1)
+            (λ number after e z. no-mark draft 0x3B (at + 1) number after (omega arith) (λ l. omega arith) e (eqb-false b 0x3B t) z);
+      }
+
+  -- the end of a string's prefix of no bytes
+  pub opened-ends : at < length draft → Opens draft at at → Ends draft at at 2
+  opened-ends h o =
+      record {
+        on = omega arith;
+        there = h;
+        simple = λ e. absurd (omega arith);
+        opened = λ e. o;
+        goes = λ e. absurd (omega arith);
+      }
+
+  -- the end of a token's own bytes
+  pub word-ends :
+      (i how : ℕ) → tokenAt limits draft at ≡ first (tokens limits (word at 1) (streamAt draft (at + 1))) → Worded draft at i how
+      → Ends draft at i how
+  word-ends i how e w =
+      let on = w .on in
+      let b = getD draft i 0 in
+      let all = e ∙ ap first (w .same) in
+      record {
+        on = omega arith;
+        there = w .there;
+        simple =
+            λ one.
+            let is = w .ends ∙ one in
+            let x = ends-ending b is in
+            all
+            ∙ words.ended limits draft at i b (i + 1) (i - at) (alone-at draft i (w .there) (ends-own b (omega arith))) (x .is-legal)
+            (x .is-exclusive);
+        opened =
+            λ two.
+            let is = w .ends ∙ two in
+            let o = opening b (ends-opening b is) in
+            record {
+              is =
+                  all
+                  ∙ (words.opened limits draft at i b (i + 1) (i - at) (alone-at draft i (w .there) (ends-own b (omega arith)))
+                  (o .is-legal)
+                  (o .no-exclusive) (o .is-inclusive)
+                  ∙ ap first (opened-as b at (i - at) (i + 1) (λ state. tokens limits state (streamAt draft (i + 1))) (o .is-inclusive)));
+            };
+        goes = λ none. record { is = all };
+      }
+
+  -- CR LF ends a token
+  pub line-ends : (i : ℕ) → Goes draft at i → characterAt draft i ≡ Clean 0x0A (i + 2) → tokenAt limits draft at ≡ Simple at i (i - at)
+  unfolding visible white exclusive legal
+  line-ends i g e = g .is ∙ words.ended limits draft at i 0x0A (i + 2) (i - at) e refl refl

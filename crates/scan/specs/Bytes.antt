@@ -1,0 +1,56 @@
+-- Sorts of bytes that the straight ways ask for, in the words of 004, section 3.1. Nothing here says more of the format than Sorts does.
+use Prim.Native.Nat.{ℕ, _<_, _≤_}
+use mathlib.Core.Path.{_≡_}
+use mathlib.Core.Bool.{Bool, true, not, _&&_, _||_}
+use mathlib.Core.List.{List}
+use lib.Dec.{eqb}
+use lib.ListN.{length, getD}
+use Rattle.chars.specs.Choice.{if_then_else_, within}
+use Rattle.tokens.specs.Sorts.{visible, white, atomic, exclusive, inclusive}
+use Rattle.tokens.specs.Runs.{bytesOf}
+
+-- What a byte begins where no token has begun: 1 whitespace, 2 a comment, 3 one of ( ) [ ] , % ; which are tokens alone, 4 a string, 5
+-- `|`, which may begin the last token, 6 any other token, 7 `}`, which is a token alone too; and 0 is illegal or not US-ASCII.
+unfoldable pub beginsOf : (b : ℕ) → ℕ
+beginsOf b =
+    if white b then 1
+    else if eqb b 0x23 then 2
+    else if inclusive b then 4
+    else if eqb b 0x7C then 5
+    else if eqb b 0x7D then 7
+    else if atomic b then 3
+    else if visible b then 6
+    else 0
+
+-- What a byte is behind a token's first: 1 ends it, left out, 2 opens a string, 3 goes on with it; and 0 is illegal or not US-ASCII.
+unfoldable pub endsOf : (b : ℕ) → ℕ
+endsOf b =
+    if exclusive b then 1
+    else if inclusive b then 2
+    else if visible b then 3
+    else 0
+
+-- what words are mostly made of: letters, digits and - . / : < = > ? @ `
+unfoldable pub common : (b : ℕ) → Bool
+common b = within 0x2D 0x3A b || (within 0x3C 0x5A b || within 0x60 0x7A b)
+
+-- what comments are mostly made of: SP, visible characters and DEL
+unfoldable pub remark : (b : ℕ) → Bool
+remark b = within 0x20 0x7F b
+
+-- what string data is mostly made of: US-ASCII but for nul, CR, backslash and what takes the level up or down
+unfoldable pub plain : (curly : Bool) → (b : ℕ) → Bool
+plain curly b =
+    within 1 0x7F b && (not (eqb b 0x0D) && (not (eqb b 0x5C)
+    && (if curly then not (eqb b 0x7B) && not (eqb b 0x7D) else not (eqb b 0x22))))
+
+-- Of eight bytes as one number, `flags` has a byte of 0 only where a byte of `w` passes a test.
+abbrev pub Flags : (test : ℕ → Bool) → (w flags : ℕ) → Type 0
+Flags test w flags =
+    (i : ℕ) → i < 8 → getD (bytesOf 8 flags) i 0 ≡ 0 → test (getD (bytesOf 8 w) i 0) ≡ true
+
+-- bytes of a draft from `at` up to `r`, each of which passes a test
+pub record Passed (test : ℕ → Bool) (draft : List ℕ) (at r : ℕ) : Type 0 where
+  pub on : at ≤ r
+  pub there : r ≤ length draft
+  pub each : (i : ℕ) → at ≤ i → i < r → test (getD draft i 0) ≡ true

@@ -1,0 +1,5 @@
+pub mod Bytes
+pub mod Wide
+pub mod Data
+pub mod Found
+pub mod Opens

@@ -1,0 +1,95 @@
+// Sorts of bytes, as Shastina Specification, section 3.1, lists them.
+ghost use mathlib.Core.Path.{_≡_};
+ghost use mathlib.Core.Bool.{true, false};
+ghost use Prim.Native.Nat.{ℕ, _+_, _<_, _≤_};
+ghost use lib.ListN.{length, getD};
+ghost use Rattle.chars.specs.Character.{characterAt};
+ghost use Rattle.chars.specs.declared.Character.the-variants.{Clean};
+ghost use Rattle.tokens.specs.Sorts.{visible as visibleBy, exclusive as exclusiveBy, inclusive as inclusiveBy};
+ghost use Rattle.scan.specs.Bytes.{beginsOf, endsOf};
+
+// Visible US-ASCII.
+fn visible(b: u8) -> bool
+    ensures { λ r. ⌜ r ≡ visibleBy b ⌝ }
+{
+    if b < 0x21 {
+        return false;
+    }
+    b < 0x7F
+}
+
+// Exclusive characters end a token and are left out of it.
+fn exclusive(b: u8) -> bool
+    ensures { λ r. ⌜ r ≡ exclusiveBy b ⌝ }
+{
+    match b {
+        b'\t' | b' ' | b'\n' | b'(' | b')' | b'[' | b']' | b',' | b'%' | b';' | b'#' | b'}' => true,
+        _ => false,
+    }
+}
+
+// Inclusive characters end a token and are part of it.
+fn inclusive(b: u8) -> bool
+    ensures { λ r. ⌜ r ≡ inclusiveBy b ⌝ }
+{
+    match b {
+        b'"' | b'{' => true,
+        _ => false,
+    }
+}
+
+// What a byte begins where no token has begun (specs/Bytes.antt, beginsOf).
+pub fn begins(b: u8) -> u32
+    ensures { λ r. ⌜ r ≡ beginsOf b ⌝ }
+{
+    match b {
+        b'\t' | b' ' => 1,
+        b'\n' => 1,
+        b'#' => 2,
+        b'(' | b')' | b'[' | b']' | b',' | b'%' | b';' => 3,
+        b'"' | b'{' => 4,
+        b'|' => 5,
+        b'}' => 7,
+        _ => {
+            if visible(b) {
+                return 6;
+            }
+            0
+        }
+    }
+}
+
+// What a byte is behind a token's first (specs/Bytes.antt, endsOf). Most tokens are ended by SP or LF.
+pub fn ends(b: u8) -> u32
+    ensures { λ r. ⌜ r ≡ endsOf b ⌝ }
+{
+    if b == b' ' {
+        return 1;
+    }
+    if b == b'\n' {
+        return 1;
+    }
+    if exclusive(b) {
+        return 1;
+    }
+    if inclusive(b) {
+        return 2;
+    }
+    if visible(b) {
+        return 3;
+    }
+    0
+}
+
+// Whether CR at a place has LF right behind it, and so is one LF.
+pub fn is_line(draft: &[u8], at: usize) -> bool
+    requires { ⌜ (at < length (now draft)) × (getD (now draft) at 0 ≡ 0x0D) ⌝ }
+    ensures { λ r. ⌜ (r ≡ true → (at + 2 ≤ length (now (draft .entry))) × (characterAt (now (draft .entry)) at ≡ Clean 0x0A (at + 2)))
+        × (r ≡ false → (number after : ℕ) → characterAt (now (draft .entry)) at ≡ Clean number after → ⊥) ⌝ }
+{
+    let next = at + 1;
+    if draft.len() <= next {
+        return false;
+    }
+    draft[next] == b'\n'
+}
