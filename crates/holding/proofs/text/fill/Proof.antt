@@ -1,0 +1,75 @@
+-- `holding::text::fill` meets its contract: the part that is lent comes back filled, with the draft's own bytes where the clean ones are
+-- these, and else by the copier's promise. Assumes nothing.
+use mathlib.Core.Path.{_∙_, ap}
+use native.Mathlib.Omega.{arith}
+use lib.ListN.{length, take, drop, length-take}
+use Rattle.chars.specs.Stream.{streamAt, clean}
+use Rattle.holding.proofs.Filling.{copied-front, part-filled}
+use borrow.Author.Needs.{needs}
+use Rattle.holding.proofs.text.fill.Statement.{statement}
+use Rattle.holding.proofs.text.fill.Tie as tie
+
+sub-long : tie.Need-sub-long
+sub-long c = search needs
+
+part-long-start : tie.Need-part-long-start
+part-long-start c = search needs
+
+part-long-end : tie.Need-part-long-end
+part-long-end c = search needs
+
+long-requires : tie.Need-long-requires
+long-requires c κs =
+    let a = c .before .before .before .before .args in
+    let p = c .before .before .before .before .pre in
+    (omega (arith, ap length (p .2 (c .before .if1 .taken)), p .1, length-take (a .n) (drop (a .from) (a .draft .now))), search needs)
+
+sub-copy : tie.Need-sub-copy
+sub-copy c = search needs
+
+part-copy-start : tie.Need-part-copy-start
+part-copy-start c = search needs
+
+part-copy-end : tie.Need-part-copy-end
+part-copy-end c = search needs
+
+copy-requires : tie.Need-copy-requires
+copy-requires c κs = search needs
+
+same-length : tie.Need-same-length
+same-length c = search needs
+
+returns : tie.Need-returns
+returns c =
+    let a = c .before .before .before .before .before .before .before .args in
+    let p = c .before .before .before .before .before .before .before .pre in
+    rw (p .2 (c .before .before .before .before .if1 .taken)) (part-filled (take (a .n) (drop (a .from) (a .draft .now))) (a .n)
+    (a .text .now) (a .used) (c .before .before .long .last .1 .1 .1 .0) (p .0) (c .before .before .long .ensures))
+
+same-length-2 : tie.Need-same-length-2
+same-length-2 c = search needs
+
+returns-2 : tie.Need-returns-2
+returns-2 c =
+    let a = c .before .before .before .before .before .before .before .args in
+    let p = c .before .before .before .before .before .before .before .pre in
+    part-filled (clean (a .n) (streamAt (a .draft .now) (a .from))) (a .n) (a .text .now) (a .used)
+    (c .before .before .copy .last .1 .1 .1 .0) (p .0)
+    (c .before .before .copy .ensures .1 ∙ copied-front (a .draft .now) (a .from) (a .n) _ (search needs) (p .1))
+
+pub fill-spec : {M : Type 1} → statement M
+fill-spec =
+    tie.close
+    (tie.spec
+    sub-long
+    part-long-start
+    part-long-end
+    long-requires
+    sub-copy
+    part-copy-start
+    part-copy-end
+    copy-requires
+    same-length
+    returns
+    same-length-2
+    returns-2)
