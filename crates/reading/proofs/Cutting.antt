@@ -17,10 +17,9 @@ use Rattle.tokens.proofs.Classes.{low}
 use Rattle.tokens.proofs.Skipping.{alone-at}
 use Rattle.tokens.proofs.Copying.{clean-zero, clean-next}
 use Rattle.reading.specs.Entity.{Entity, bare, size, sizes, texts}
-use Rattle.reading.specs.Judging.{bares, cut, filled, lasts, written, textWritten, cutFrom, cutLength, madeEntities, tokenEntities}
+use Rattle.reading.specs.Judging.{bares, cut, written, textWritten, cutFrom, cutLength}
 use Rattle.reading.specs.Stepping.{Contents}
-use Rattle.reading.specs.declared.judge.Made.{Made}
-use Rattle.reading.proofs.Listing.{no-bare, one-bare, written-more, written-length, texts-append, sizes-append}
+use Rattle.reading.proofs.Listing.{no-bare, one-bare, written-more, texts-append, sizes-append}
 
 tail-take : (n b : ℕ) (bytes : List ℕ) → tail (take n (b ∷ bytes)) ≡ take (n - 1) bytes
 tail-take zero b bytes = refl
@@ -86,28 +85,6 @@ module _ (draft : List ℕ) (place prefix from n : ℕ) (c : Contents draft plac
   cut-raw =
       by-cut (λ n at. clean n (streamAt draft at) ≡ take n (drop at draft)) (clean-zero (streamAt draft place)) (c .text-raw) rest-raw
 
-  -- the last entity of a token
-  pub last-one :
-      (m : Made) → (m .last ≡ 0 → ⊥)
-      → lasts m place (clean prefix (streamAt draft place)) (clean n (streamAt draft from))
-      ≡ filled draft (m .last) place (cutFrom (m .text) place) (cutLength (m .text) prefix) from n (m .count) ∷ []
-  unfolding lasts filled
-  last-one m e = rw (ne-eqb (m .last) 0 e, cut-clean (m .text))
-
-  pub last-many :
-      (m : Made) → (m .last ≡ 0 → ⊥) → length (lasts m place (clean prefix (streamAt draft place)) (clean n (streamAt draft from))) ≡ 1
-  last-many m e = ap length (last-one m e)
-
-  pub last-much :
-      (m : Made) → (m .last ≡ 0 → ⊥)
-      → sizes (lasts m place (clean prefix (streamAt draft place)) (clean n (streamAt draft from))) ≡ cutLength (m .text) prefix + n
-  unfolding sizes size filled
-  last-much m e = ap sizes (last-one m e) ∙ omega (arith, cut-long (m .text), c .string-long)
-
-pub no-last : (m : Made) (place : ℕ) (text string : List ℕ) → m .last ≡ 0 → lasts m place text string ≡ []
-unfolding lasts
-no-last m place text string e = rw (eq-eqb (m .last) 0 e)
-
 -- entities with nothing in them take no text
 pub bare-sizes : (kind place : ℕ) → sizes (bares kind place) ≡ 0
 unfolding sizes size bare
@@ -137,43 +114,6 @@ unfolding textWritten
 bare-text before t kind place es =
     rw (texts-append, sizes-append, bare-texts kind place, bare-sizes kind place)
     (let same : 0 + sizes es ≡ sizes es = omega arith in rw same)
-
--- How many entities a token has and how much text, part by part.
-module _ (draft : List ℕ) (lead : ℕ) (m : Made) (place prefix from n : ℕ) where
-  abbrev pub own-last : List Entity
-  own-last = lasts m place (clean prefix (streamAt draft place)) (clean n (streamAt draft from))
-
-  pub parts : tokenEntities draft lead m place prefix from n ≡ bares lead place ++ (bares (m .first) place ++ own-last)
-  unfolding tokenEntities madeEntities
-  parts = refl
-
-  pub so-many :
-      length (tokenEntities draft lead m place prefix from n)
-      ≡ length (bares lead place) + (length (bares (m .first) place) + length own-last)
-  unfolding tokenEntities madeEntities
-  so-many =
-      length-append (bares lead place) (bares (m .first) place ++ own-last)
-      ∙ ap (λ k. length (bares lead place) + k) (length-append (bares (m .first) place) own-last)
-
-  pub so-much : sizes (tokenEntities draft lead m place prefix from n) ≡ sizes own-last
-  unfolding tokenEntities madeEntities
-  so-much =
-      sizes-append (bares lead place) (bares (m .first) place ++ own-last)
-      ∙ omega
-      (arith, bare-sizes lead place, sizes-append (bares (m .first) place) own-last, bare-sizes (m .first) place)
-
-  -- two bare entities and the last one, written one behind the other
-  pub one-after-another :
-      (before : List ℕ) (k t : ℕ) (es : List Entity)
-      → 6 * (k + length (bares lead place) + length (bares (m .first) place)) ≤ length before
-      → written
-      (written (written before k t (bares lead place)) (k + length (bares lead place)) t (bares (m .first) place))
-      (k + length (bares lead place) + length (bares (m .first) place)) t es
-      ≡ written before k t (bares lead place ++ (bares (m .first) place ++ es))
-  one-after-another before k t es h =
-      let first = written-length before k t (bares lead place) (omega arith) in
-      bare-first (written before k t (bares lead place)) (k + length (bares lead place)) t (m .first) place es (omega arith)
-      ∙ bare-first before k t lead place (bares (m .first) place ++ es) (omega arith)
 
 pub cut-fits : (how prefix : ℕ) → cutLength how prefix ≤ prefix
 unfolding cutLength

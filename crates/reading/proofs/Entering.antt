@@ -1,92 +1,145 @@
--- A word where no metacommand is open, against Making: right behind `[` it is judged with the begin group that it brings open. Where there
--- is no room for that group there is none for the two, and both are 18, so that the two are counted at once.
-use mathlib.Core.Path.{_≡_, refl}
-use mathlib.Core.Bool.{Bool, true, false, _&&_}
-use mathlib.Core.List.{List}
-use Prim.Native.Nat.{ℕ, _+_, _-_, _<_, _≤_, _/_}
+-- A token behind `[`, unless `]`, brings a begin group: 17 and 18 for it come before the token's own refusal, and the token is then judged
+-- with that group open. What is held is the same in that state, so that what the token did is told of the state before.
+use mathlib.Core.Path.{_≡_, refl, sym, _∙_}
+use mathlib.Core.Bool.{Bool, true, false, not, _&&_}
+use mathlib.Core.List.{List, _∷_}
+use Prim.Native.Nat.{ℕ, _+_, _-_, _*_, _<_, _≤_, _/_}
 use native.Mathlib.Omega.{arith}
-use lib.Dec.{leb, eqb}
+use lib.Dec.{leb, ltb, eqb}
 use lib.ListN.{length}
-use borrow.Author.Tests.{lt-ltb, le-ltb, leb-true, leb-false}
+use borrow.Author.Tests.{eq-eqb, ne-eqb, lt-ltb, le-ltb, leb-true, leb-false, ltb-true, ltb-false}
 use Rattle.chars.specs.Choice.{if_then_else_}
 use Rattle.chars.specs.Limits.{limits}
 use Rattle.chars.proofs.Cases.{either, both}
-use Rattle.reading.specs.Making.{Handled, fitted, handled, within-groups, adds, word, shortage}
+use Rattle.reading.specs.Making.{Reader, Judged, Handled, stops, holds, fitted, handled, within-groups}
 use Rattle.reading.specs.Judging.{bares, kindOf}
-use Rattle.reading.specs.Stepping.{Ready, Spare, openGroups, below, roomLeft, readerOf, agrees, enteredBy, enteredGroups}
-use Rattle.reading.specs.declared.step.State.{State}
-use Rattle.reading.specs.declared.step.Step.{Step}
-use Rattle.reading.specs.declared.step.Step.the-variants.{Stops}
+use Rattle.reading.specs.Stepping.{Ready, Steady, Spare, openGroups, below, roomLeft, readerOf, agrees, Took, Goes, Stops}
+use Rattle.reading.specs.Stepping.{enteredBy, enteredGroups, leadOf}
+use Rattle.reading.specs.declared.state.State.{State}
 use Rattle.reading.proofs.OpenGroups.{so-many}
-use Rattle.reading.proofs.Deciding.{same-held}
 
-module _ (s : State) (list text groups : List ℕ) (place : ℕ) where
+-- what a token did is told of a state by what that holds alone
+pub same-held :
+    (s t : State) → t .entities ≡ s .entities → t .text ≡ s .text
+    → (h : Handled) (list text : List ℕ) (place : ℕ) (r : Took) (list′ text′ groups′ : List ℕ)
+    → agrees h r t list text list′ text′ groups′ place → agrees h r s list text list′ text′ groups′ place
+unfolding agrees
+same-held s t e u (stops n) list text place (Stops m v) list′ text′ groups′ a = rw (e, u) at a
+same-held s t e u (stops n) list text place (Goes v) list′ text′ groups′ a = a
+same-held s t e u (holds es room q) list text place (Stops m v) list′ text′ groups′ a = a
+same-held s t e u (holds es room q) list text place (Goes v) list′ text′ groups′ a = rw (e, u) at a
+
+module _ (s : State) (list text groups : List ℕ) (place : ℕ) (closes : Bool) (judge : Reader → Judged) where
   abbrev gs : List ℕ
   gs = openGroups groups (s .depth)
 
-  module _ (T : List ℕ) (regularly : s .metacommand ≡ false) where
-    abbrev comes : Handled
-    comes = handled limits (roomLeft s list text) (readerOf s groups) false place (λ q. adds q (word place T))
+  abbrev brings : Bool
+  brings = eqb (s .mode) 1 && not closes
 
-    pub too-many : (s .opened && leb 64 (s .depth)) ≡ true → (groups′ : List ℕ)
-        → agrees comes (Stops 17) s list text list text groups′ place
-    unfolding handled readerOf agrees
-    too-many t groups′ =
-        let b = both (s .opened) (leb 64 (s .depth)) t in
-        let deep = leb-true 64 (s .depth) (b .1) in
-        rw (b .0, le-ltb (length gs) 64 (omega (arith, so-many groups (s .depth)))) (refl, refl, refl)
+  abbrev comes : Handled
+  comes = handled limits (roomLeft s list text) (readerOf s groups) closes place judge
 
-    comes-is :
-        (s .opened ≡ true → s .depth < 64)
-        → comes
-        ≡ fitted (roomLeft s list text) (bares (if s .opened then 6 else 0) place) (adds (within-groups (enteredGroups s gs))
-        (word place T))
-    unfolding handled readerOf within-groups bares kindOf roomLeft fitted adds shortage enteredGroups
-    comes-is shallow =
-        either (s .opened)
+  pub too-many : (brings && leb 64 (s .depth)) ≡ true → (groups′ : List ℕ) → agrees comes (Stops 17 s) s list text list text groups′ place
+  unfolding handled readerOf agrees
+  too-many t groups′ =
+      let b = both brings (leb 64 (s .depth)) t in
+      let deep = leb-true 64 (s .depth) (b .1) in
+      rw (b .0, le-ltb (length gs) 64 (omega (arith, so-many groups (s .depth)))) (refl, refl, refl, refl, refl)
+
+  module _ (shallow : brings ≡ true → s .depth < 64) where
+    pub no-room :
+        6 * s .entities ≤ length list → (brings && ltb (length list - 6 * s .entities) 6) ≡ true → (groups′ : List ℕ)
+        → agrees comes (Stops 18 s) s list text list text groups′ place
+    unfolding handled readerOf agrees roomLeft
+    no-room h t groups′ =
+        let b = both brings (ltb (length list - 6 * s .entities) 6) t in
+        let few = shallow (b .0) in
+        let none : length list / 6 - s .entities ≡ 0 = omega (arith, ltb-true (length list - 6 * s .entities) 6 (b .1)) in
+        rw (
+          b .0,
+          lt-ltb (length gs) 64 (omega (arith, so-many groups (s .depth))),
+          eq-eqb (length list / 6 - s .entities) 0 none,
+        ) (refl, refl, refl, refl, refl)
+
+    -- with the group open, or with none
+    pub entered :
+        (brings ≡ true → length list / 6 - s .entities ≡ 0 → ⊥) → (pushed : List ℕ)
+        → openGroups pushed (enteredBy brings s .depth) ≡ enteredGroups brings gs → (r : Took) (list′ text′ groups′ : List ℕ)
+        → agrees
+        (fitted (roomLeft (enteredBy brings s) list text) (bares (leadOf brings) place)
+        (judge (readerOf (enteredBy brings s) pushed))) r
+        (enteredBy brings s) list text
+        list′ text′ groups′ place
+        → agrees comes r s list text list′ text′ groups′ place
+    unfolding handled readerOf within-groups bares kindOf roomLeft enteredBy enteredGroups leadOf
+    entered some pushed so r list′ text′ groups′ a =
+        either brings
         (λ t.
         let few = shallow t in
-        rw (t, lt-ltb (length gs) 64 (omega (arith, so-many groups (s .depth))))
-        (either (eqb (length list / 6 - s .entities) 0) (λ u. rw u) (λ u. rw u)))
-        (λ t. rw (t, regularly))
+        rw (
+          t,
+          lt-ltb (length gs) 64 (omega (arith, so-many groups (s .depth))),
+          ne-eqb (length list / 6 - s .entities) 0 (some t),
+        )
+        (same-held s (record { mode = 0; depth = s .depth + 1; entities = s .entities; text = s .text }) refl refl _ list text place r
+        list′ text′ groups′ (rw (rw t at so) at (rw t at a))))
+        (λ t. rw t (rw (rw t at so) at (rw t at a)))
 
-    pub entered :
-        (s .opened ≡ true → s .depth < 64) → (pushed : List ℕ) → openGroups pushed (enteredBy s .depth) ≡ enteredGroups s gs
-        → (r : Step) (list′ text′ : List ℕ)
-        → agrees (fitted (roomLeft (enteredBy s) list text) (bares (if s .opened then 6 else 0) place)
-        (adds (record { metacommand = false; opened = false; groups = openGroups pushed (enteredBy s .depth) }) (word place T))) r
-        (enteredBy s) list text
-        list′ text′ pushed place
-        → agrees comes r s list text list′ text′ pushed place
-    unfolding enteredBy within-groups roomLeft
-    entered shallow pushed so r list′ text′ a =
-        rw (comes-is shallow) (same-held s (enteredBy s) refl refl _ list text place r list′ text′ pushed (rw so at a))
+-- what is ready is ready in that state
+module _ (brings : Bool) (s : State) (list text groups : List ℕ) (place : ℕ) where
+  pub entities-entered : enteredBy brings s .entities ≡ s .entities
+  unfolding enteredBy
+  entities-entered = either brings (λ t. rw t) (λ t. rw t)
 
-  module _ (ready : Ready s list text groups place) where
-    pub ready-entered :
-        (s .opened ≡ true → s .depth < 64) → (pushed : List ℕ) → length pushed ≡ 64
-        → openGroups pushed (enteredBy s .depth) ≡ enteredGroups s gs
-        → Ready (enteredBy s) list text pushed place
-    unfolding enteredBy enteredGroups below
-    ready-entered shallow pushed long so =
+  pub text-entered : enteredBy brings s .text ≡ s .text
+  unfolding enteredBy
+  text-entered = either brings (λ t. rw t) (λ t. rw t)
+
+  module _ (shallow : brings ≡ true → s .depth < 64) (pushed : List ℕ) (long : length pushed ≡ 64)
+      (so : openGroups pushed (enteredBy brings s .depth) ≡ enteredGroups brings (openGroups groups (s .depth))) where
+    deep-entered : s .depth ≤ 64 → enteredBy brings s .depth ≤ 64
+    unfolding enteredBy
+    deep-entered h = either brings (λ t. let few = shallow t in rw t (omega arith)) (λ t. rw t h)
+
+    numbers-entered :
+        below (openGroups groups (s .depth)) (place + 1) → below (openGroups pushed (enteredBy brings s .depth)) (place + 1)
+    unfolding enteredGroups below
+    numbers-entered b = rw so (either brings (λ t. rw t (omega arith, b)) (λ t. rw t b))
+
+    pub ready-entered : Ready s list text groups place → Ready (enteredBy brings s) list text pushed place
+    ready-entered ready =
         record {
-          deep = either (s .opened) (λ t. let few = shallow t in rw t (omega arith)) (λ t. rw t (ready .deep));
+          deep = deep-entered (ready .deep);
           array = long;
-          held = ready .held;
-          used = ready .used;
-          small = ready .small;
-          numbers =
-              rw so (either (s .opened) (λ t. rw t (omega arith, ready .numbers)) (λ t. rw t (ready .numbers)));
+          held = omega (arith, ready .held, entities-entered);
+          used = omega (arith, ready .used, text-entered);
+          small = omega (arith, ready .small, text-entered);
+          numbers = numbers-entered (ready .numbers);
         }
 
-    pub spare-entered : Spare (enteredBy s) list text place
-    unfolding enteredBy
-    spare-entered = record { held = ready .held; used = ready .used; small = ready .small }
+    pub steady-entered : Steady s list groups place → Steady (enteredBy brings s) list pushed place
+    steady-entered ready =
+        record {
+          deep = deep-entered (ready .deep);
+          array = long;
+          held = omega (arith, ready .held, entities-entered);
+          small = omega (arith, ready .small, text-entered);
+          numbers = numbers-entered (ready .numbers);
+        }
+
+  pub spare-entered : Ready s list text groups place → Spare (enteredBy brings s) list text place
+  spare-entered ready =
+      record {
+        held = omega (arith, ready .held, entities-entered);
+        used = omega (arith, ready .used, text-entered);
+        small = omega (arith, ready .small, text-entered);
+      }
 
 -- a group that is not one too many
-pub not-crowded : (s : State) → (s .opened && leb 64 (s .depth)) ≡ false → s .opened ≡ true → s .depth < 64
-not-crowded s f t = leb-false 64 (s .depth) (rw t at f)
+pub not-crowded : (brings : Bool) (depth : ℕ) → (brings && leb 64 depth) ≡ false → brings ≡ true → depth < 64
+not-crowded brings depth f t = leb-false 64 depth (rw t at f)
 
-pub brought-kind : (opened : Bool) → (if opened then 6 else 0) ≤ 17
-brought-kind true = omega arith
-brought-kind false = omega arith
+pub lead-kind : (brings : Bool) → leadOf brings ≤ 17
+unfolding leadOf
+lead-kind true = omega arith
+lead-kind false = omega arith

@@ -1,16 +1,12 @@
 -- The open groups as a list: what is stored past them changes nothing, what is stored right behind them is one more, and the innermost is
 -- the last of the array's open numbers.
 use mathlib.Core.Path.{_≡_, refl, ap}
-use mathlib.Core.List.{List, [], _∷_, tail}
+use mathlib.Core.List.{List, [], _∷_}
 use Prim.Native.Nat.{ℕ, zero, suc, _+_, _-_, _<_, _≤_}
 use native.Mathlib.Omega.{arith}
 use native.Mathlib.Numerals.{add-one}
 use lib.ListN.{length, getD, set}
 use lib.Seq.{getD-set-same, getD-set-other}
-use lib.Dec.{eqb}
-use borrow.Author.Tests.{ne-eqb}
-use Rattle.chars.proofs.Cases.{either}
-use Rattle.reading.specs.Judging.{nextElement, groupsAfter}
 use Rattle.reading.specs.Stepping.{openGroups, below}
 
 pub so-many : (a : List ℕ) (k : ℕ) → length (openGroups a k) ≡ k
@@ -36,43 +32,28 @@ pub pushed : (a : List ℕ) (i v : ℕ) → i < length a → openGroups (set a i
 unfolding openGroups
 pushed a i v h = rw (add-one, getD-set-same a i v 0 h, past a i v i (omega arith))
 
-pub popped : (a : List ℕ) (k : ℕ) → openGroups a (k - 1) ≡ tail (openGroups a k)
+-- those that are open are the innermost and the others
+pub topped : (a : List ℕ) (k : ℕ) → (k ≡ 0 → ⊥) → openGroups a k ≡ getD a (k - 1) 0 ∷ openGroups a (k - 1)
 unfolding openGroups
-popped a zero = refl
-popped a (suc k) = let less : suc k - 1 ≡ k = omega arith in rw less
+topped a zero h = absurd (h refl)
+topped a (suc k) h = let less : suc k - 1 ≡ k = omega arith in rw less
 
-pub counted :
-    (a : List ℕ) (k : ℕ) → (k ≡ 0 → ⊥) → k - 1 < length a
-    → openGroups (set a (k - 1) (getD a (k - 1) 0 + 1)) k ≡ nextElement (openGroups a k)
-unfolding openGroups nextElement
-counted a zero h l = absurd (h refl)
-counted a (suc k) h l =
+-- another number for the innermost
+pub renumbered :
+    (a : List ℕ) (k v : ℕ) → (k ≡ 0 → ⊥) → k - 1 < length a → openGroups (set a (k - 1) v) k ≡ v ∷ openGroups a (k - 1)
+unfolding openGroups
+renumbered a zero v h l = absurd (h refl)
+renumbered a (suc k) v h l =
     let less : suc k - 1 ≡ k = omega arith in
-    rw (less, getD-set-same a k (getD a k 0 + 1) 0 (omega arith), past a k (getD a k 0 + 1) k (omega arith), add-one)
+    rw (less, getD-set-same a k v 0 (omega arith), past a k v k (omega arith))
 
--- numbers at most `m` are at most anything above it, and what becomes of the groups raises them by at most one
+-- numbers at most `m` are at most anything above it
 pub higher : (groups : List ℕ) (m n : ℕ) → m ≤ n → below groups m → below groups n
 unfolding below
 higher [] m n h b = tt
 higher (g ∷ groups) m n h b = (omega (arith, b .0), higher groups m n h (b .1))
 
-pub below-tail : (groups : List ℕ) (m : ℕ) → below groups m → below (tail groups) m
-unfolding below
-below-tail [] m b = tt
-below-tail (g ∷ groups) m b = b .1
-
-pub below-next : (groups : List ℕ) (m : ℕ) → below groups m → below (nextElement groups) (m + 1)
-unfolding below nextElement
-below-next [] m b = tt
-below-next (g ∷ groups) m b = (omega (arith, b .0), higher groups m (m + 1) (omega arith) (b .1))
-
 pub below-top : (groups : List ℕ) (m : ℕ) → below groups m → getD groups 0 0 ≤ m
 unfolding below
 below-top [] m b = omega arith
 below-top (g ∷ groups) m b = b .0
-
--- with no group open, nothing ends and nothing goes on
-pub none-after : (change : ℕ) → (change ≡ 0 → ⊥) → (change ≡ 1 → ⊥) → groupsAfter change [] ≡ []
-unfolding groupsAfter nextElement
-none-after change a b =
-    rw (ne-eqb change 0 a, ne-eqb change 1 b) (either (eqb change 2) (λ t. rw t) (λ t. rw t))

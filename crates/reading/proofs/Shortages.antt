@@ -1,6 +1,6 @@
 -- Of a token's entities only the last has text, so the first that does not fit is found by counting: there are too many, or that text is
 -- too long.
-use mathlib.Core.Path.{_≡_, sym, _∙_, ap}
+use mathlib.Core.Path.{_≡_, ap}
 use mathlib.Core.List.{List, [], _∷_, _++_}
 use Prim.Native.Nat.{ℕ, suc, _+_, _-_, _≤_}
 use native.Mathlib.Omega.{arith}
@@ -8,14 +8,10 @@ use lib.Dec.{eqb, ltb}
 use lib.ListN.{length}
 use borrow.Author.Tests.{eqb-true, eqb-false, lt-ltb, le-ltb, ltb-true, ltb-false}
 use Rattle.chars.proofs.Cases.{either}
-use Rattle.chars.specs.Stream.{streamAt, clean}
 use Rattle.reading.specs.Entity.{Entity, bare, size, sizes}
 use Rattle.reading.specs.Making.{shortage}
-use Rattle.reading.specs.Judging.{bares, lasts, one, madeCount, madeSize, shortOf, tokenEntities}
-use Rattle.reading.specs.Stepping.{Contents}
-use Rattle.reading.specs.declared.judge.Made.{Made}
+use Rattle.reading.specs.Judging.{bares, one, shortOf}
 use Rattle.reading.proofs.Listing.{no-bare, one-bare}
-use Rattle.reading.proofs.Cutting.{parts, so-many, so-much, no-last, last-one, last-many, last-much, cut-fits}
 
 -- whatever fits leaves nothing short
 pub fits : (E T : ℕ) (es : List Entity) → shortage E T es ≡ 0 → (length es ≤ E) × (sizes es ≤ T)
@@ -32,14 +28,14 @@ fits E T (e ∷ es) h =
     (omega (arith, rest .0, eqb-false E 0 t), omega (arith, rest .1, ltb-false T (size e) u))))
 
 -- it is found by counting
-abbrev Counts : (T : ℕ) → List Entity → Type 0
+abbrev pub Counts : (T : ℕ) → List Entity → Type 0
 Counts T es = (E : ℕ) → shortage E T es ≡ shortOf E T (length es) (sizes es)
 
-none-counts : (T : ℕ) → Counts T []
+pub none-counts : (T : ℕ) → Counts T []
 unfolding shortage shortOf sizes
 none-counts T E = rw (le-ltb E 0 (omega arith), le-ltb T 0 (omega arith))
 
-one-counts : (T : ℕ) (e : Entity) → Counts T (e ∷ [])
+pub one-counts : (T : ℕ) (e : Entity) → Counts T (e ∷ [])
 unfolding shortage shortOf sizes
 one-counts T e E =
     let whole : size e + 0 ≡ size e = omega arith in
@@ -47,7 +43,7 @@ one-counts T e E =
     (λ t. rw (t, lt-ltb E 1 (omega (arith, eqb-true E 0 t))))
     (λ t. rw (t, le-ltb E 1 (omega (arith, eqb-false E 0 t)), whole))
 
-bare-counts : (T kind place : ℕ) (es : List Entity) → Counts T es → Counts T (bares kind place ++ es)
+pub bare-counts : (T kind place : ℕ) (es : List Entity) → Counts T es → Counts T (bares kind place ++ es)
 unfolding shortage shortOf sizes size bare
 bare-counts T kind place es c E =
     either (eqb kind 0)
@@ -65,53 +61,12 @@ bare-counts T kind place es c E =
     (λ u. rw (u, lt-ltb (E - 1) (length es) (omega (arith, ltb-true E (suc (length es)) u))))
     (λ u. rw (u, le-ltb (E - 1) (length es) (omega (arith, ltb-false E (suc (length es)) u))))))))
 
-bare-one : (kind place : ℕ) → length (bares kind place) ≡ one kind
+pub bare-one : (kind place : ℕ) → length (bares kind place) ≡ one kind
 unfolding one
 bare-one kind place =
     either (eqb kind 0)
     (λ k. rw k (ap length (no-bare kind place (eqb-true kind 0 k))))
     (λ k. rw k (ap length (one-bare kind place (eqb-false kind 0 k))))
-
-module _ (draft : List ℕ) (lead : ℕ) (m : Made) (place prefix from n : ℕ) (c : Contents draft place prefix from n) where
-  abbrev own : List Entity
-  own = lasts m place (clean prefix (streamAt draft place)) (clean n (streamAt draft from))
-
-  own-one : length own ≡ one (m .last)
-  unfolding one
-  own-one =
-      either (eqb (m .last) 0)
-      (λ k. rw k (ap length (no-last m place _ _ (eqb-true (m .last) 0 k))))
-      (λ k. rw k (last-many draft place prefix from n c m (eqb-false (m .last) 0 k)))
-
-  pub counted : length (tokenEntities draft lead m place prefix from n) ≡ madeCount lead m
-  unfolding madeCount
-  counted = omega (arith, so-many draft lead m place prefix from n, bare-one lead place, bare-one (m .first) place, own-one)
-
-  pub weighed : sizes (tokenEntities draft lead m place prefix from n) ≡ madeSize m prefix n
-  unfolding madeSize sizes
-  weighed =
-      so-much draft lead m place prefix from n
-      ∙ either (eqb (m .last) 0)
-      (λ k. rw k (ap sizes (no-last m place _ _ (eqb-true (m .last) 0 k))))
-      (λ k. rw k (last-much draft place prefix from n c m (eqb-false (m .last) 0 k)))
-
-  own-counts : (T : ℕ) → Counts T own
-  own-counts T E =
-      either (eqb (m .last) 0)
-      (λ k. rw (no-last m place (clean prefix (streamAt draft place)) (clean n (streamAt draft from)) (eqb-true (m .last) 0 k))
-      (none-counts T E))
-      (λ k. rw (last-one draft place prefix from n c m (eqb-false (m .last) 0 k)) (one-counts T _ E))
-
-  pub shortage-is :
-      (E T : ℕ) → shortage E T (tokenEntities draft lead m place prefix from n) ≡ shortOf E T (madeCount lead m) (madeSize m prefix n)
-  shortage-is E T =
-      let all = bare-counts T lead place _ (bare-counts T (m .first) place own (own-counts T)) in
-      rw (sym counted, sym weighed, parts draft lead m place prefix from n) (all E)
-
-pub small-size : (m : Made) (prefix n : ℕ) → madeSize m prefix n ≤ prefix + n
-unfolding madeSize
-small-size m prefix n =
-    either (eqb (m .last) 0) (λ k. rw k (omega arith)) (λ k. rw k (omega (arith, cut-fits (m .text) prefix)))
 
 pub one-small : (kind : ℕ) → one kind ≤ 1
 unfolding one

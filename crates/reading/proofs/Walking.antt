@@ -19,15 +19,14 @@ use Rattle.reading.specs.Making.{Reader, Room, Handled, stops, holds, ha
 use Rattle.reading.specs.Judging.{written, textWritten}
 use Rattle.reading.specs.Reading.{Read, refusal, success, before, taken, textOf, stringOf, entities, readWith, reading, answered}
 use Rattle.reading.specs.Reading.{roomOf}
-use Rattle.reading.specs.Stepping.{Contents, Ready, unchanged, openGroups, below, roomLeft, readerOf, agrees, sorted, judgedAs}
-use Rattle.reading.specs.Stepping.{closingAs, pieceOf, SoFar, ahead}
-use Rattle.reading.specs.Rounds.{Went, goesRound, behindOf, endedOf}
+use Rattle.holding.specs.Text.{unchanged}
+use Rattle.scan.specs.Found.{pieceOf}
+use Rattle.scan.specs.declared.Piece.{Piece}
+use Rattle.reading.specs.Stepping.{Contents, Ready, openGroups, below, roomLeft, readerOf, agrees, sorted, judgedAs, closingAs}
+use Rattle.reading.specs.Stepping.{SoFar, ahead, Took, Goes, Stops}
+use Rattle.reading.specs.Rounds.{Went, goesRound, On, Over, behindOf, endedOf}
 use Rattle.reading.specs.declared.Answer.{Answer}
-use Rattle.reading.specs.declared.Piece.{Piece}
-use Rattle.reading.specs.declared.step.State.{State}
-use Rattle.reading.specs.declared.step.Step.{Step}
-use Rattle.reading.specs.declared.step.Step.the-variants.{Goes, Stops}
-use Rattle.reading.specs.declared.round.Round.the-variants.{On, Over}
+use Rattle.reading.specs.declared.state.State.{State}
 use Rattle.reading.proofs.OpenGroups.{higher}
 use Rattle.reading.proofs.Listing.{written-none, written-more, text-none, text-more, sizes-append}
 
@@ -254,9 +253,9 @@ finished draft list₀ text₀ list text groups s at so t list′ text′ groups
 -- nothing is read so far
 pub at-first :
     (draft list text groups : List ℕ) → length draft ≤ 16384 → length groups ≡ 64
-    → SoFar draft list text list text groups (record { metacommand = false; opened = false; depth = 0; entities = 0; text = 0 })
+    → SoFar draft list text list text groups (record { mode = 0; depth = 0; entities = 0; text = 0 })
     (start draft)
-    (ahead draft list text groups (record { metacommand = false; opened = false; depth = 0; entities = 0; text = 0 }) (start draft))
+    (ahead draft list text groups (record { mode = 0; depth = 0; entities = 0; text = 0 }) (start draft))
 unfolding ahead readWith roomOf roomLeft readerOf openGroups below before sizes
 at-first draft list text groups h g =
     let some : length list / 6 - 0 ≡ length list / 6 = omega arith in
@@ -324,20 +323,20 @@ module _ (draft list text groups : List ℕ) (s : State) (at : ℕ) (f : Piece) 
 
     -- a token that is refused
     halted :
-        (h : Handled) (n : ℕ) → ahead draft list text groups s at ≡ taken (f .place) h next
-        → agrees h (Stops n) s list text list′ text′ groups′ (f .place)
-        → Went draft list text groups s at s list′ text′ (refusal n (f .place))
+        (h : Handled) (n : ℕ) (t : State) → ahead draft list text groups s at ≡ taken (f .place) h next
+        → agrees h (Stops n t) s list text list′ text′ groups′ (f .place)
+        → Went draft list text groups s at t list′ text′ (refusal n (f .place))
     unfolding agrees taken refusal before sizes
-    halted (stops m) n e a =
+    halted (stops m) n t e a =
         record {
           es = [];
           list-is = a .1 ∙ sym (written-none list (s .entities) (s .text));
           text-is = a .2 ∙ sym (text-none text (s .text));
-          many = omega arith;
-          much = omega arith;
+          many = omega (arith, a .3);
+          much = omega (arith, a .4);
           comes = e ∙ ap (λ j. refusal j (f .place)) (sym (a .0));
         }
-    halted (holds es room r) n e a = absurd a
+    halted (holds es room r) n t e a = absurd a
 
     -- a token that is held
     moved :
@@ -374,11 +373,11 @@ module _ (draft list text groups : List ℕ) (s : State) (at : ℕ) (f : Piece) 
         }
 
     pub behind-here :
-        (step : Step) → agrees comes step s list text list′ text′ groups′ (f .place) → length list′ ≡ length list
+        (step : Took) → agrees comes step s list text list′ text′ groups′ (f .place) → length list′ ≡ length list
         → length text′ ≡ length text
-        → (f .sort ≡ 3 → ⊥) → goesRound draft list text groups s at (behindOf step s (f .place) (f .after)) list′ text′ groups′
+        → (f .sort ≡ 3 → ⊥) → goesRound draft list text groups s at (behindOf step (f .place) (f .after)) list′ text′ groups′
     unfolding goesRound behindOf refusal ahead
-    behind-here (Stops n) a l u e = halted comes n taken-here a
+    behind-here (Stops n t) a l u e = halted comes n t taken-here a
     behind-here (Goes t) a l u e =
         let k = here some in (
           rw (ne-eqb (f .sort) 3 e) at (moved comes t taken-here a l u),
@@ -388,11 +387,11 @@ module _ (draft list text groups : List ℕ) (s : State) (at : ℕ) (f : Piece) 
         )
 
     pub ended-here :
-        (step : Step) → agrees comes step s list text list′ text′ groups′ (f .place) → length list′ ≡ length list
+        (step : Took) → agrees comes step s list text list′ text′ groups′ (f .place) → length list′ ≡ length list
         → length text′ ≡ length text
-        → f .sort ≡ 3 → goesRound draft list text groups s at (endedOf step s (f .place) (f .after)) list′ text′ groups′
+        → f .sort ≡ 3 → goesRound draft list text groups s at (endedOf step (f .place) (f .after)) list′ text′ groups′
     unfolding goesRound endedOf refusal success
-    ended-here (Stops n) a l u e = halted comes n taken-here a
+    ended-here (Stops n t) a l u e = halted comes n t taken-here a
     ended-here (Goes t) a l u e = rw (eq-eqb (f .sort) 3 e) at (moved comes t taken-here a l u)
 
 -- a draft over the limit: nothing is read

@@ -1,33 +1,34 @@
 -- What one round of reading does to what is held and to what is still to be read. Nothing here says more of the format than Reading does.
 use Prim.Native.Nat.{ℕ, _+_, _<_}
 use mathlib.Core.Path.{_≡_}
-use mathlib.Core.Bool.{Bool, _||_}
 use mathlib.Core.List.{List, []}
 use lib.Dec.{eqb}
 use lib.ListN.{length}
 use Rattle.reading.specs.Entity.{Entity, sizes}
 use Rattle.reading.specs.Judging.{written, textWritten}
 use Rattle.reading.specs.Reading.{Read, before}
-use Rattle.reading.specs.Stepping.{Ready, ahead}
-use Rattle.reading.specs.declared.step.State.{State}
-use Rattle.reading.specs.declared.step.Step.{Step}
-use Rattle.reading.specs.declared.step.Step.the-variants.{Goes, Stops}
+use Rattle.chars.specs.Choice.{if_then_else_}
+use Rattle.reading.specs.Stepping.{Ready, ahead, Took, Goes, Stops}
+use Rattle.reading.specs.declared.state.State.{State}
 use Rattle.reading.specs.declared.round.Round.{Round}
-use Rattle.reading.specs.declared.round.Round.the-variants.{On, Over}
 
--- `(`, `)`, `,` and `]`
-unfoldable pub isAtom : (b : ℕ) → Bool
-isAtom b = eqb b 0x28 || (eqb b 0x29 || (eqb b 0x2C || eqb b 0x5D))
+-- What a round comes to, as the code has it: reading goes on at a place, or is over: 0 and the byte after `;`, or a refusal and its place.
+pub data Turn : Type 0 where
+  On : State → (at : ℕ) → Turn
+  Over : (number place : ℕ) → State → (after : ℕ) → Turn
+
+unfoldable pub turn : Round → Turn
+turn r = if eqb (r .over) 0 then On (r .state) (r .after) else Over (r .number) (r .place) (r .state) (r .after)
 
 -- a step behind which reading goes on
-unfoldable pub behindOf : Step → State → (place after : ℕ) → Round
-behindOf (Stops number) s place after = Over number place s 0
-behindOf (Goes t) s place after = On t after
+unfoldable pub behindOf : Took → (place after : ℕ) → Turn
+behindOf (Stops number t) place after = Over number place t 0
+behindOf (Goes t) place after = On t after
 
 -- the last token's step
-unfoldable pub endedOf : Step → State → (place after : ℕ) → Round
-endedOf (Stops number) s place after = Over number place s 0
-endedOf (Goes t) s place after = Over 0 0 t after
+unfoldable pub endedOf : Took → (place after : ℕ) → Turn
+endedOf (Stops number t) place after = Over number place t 0
+endedOf (Goes t) place after = Over 0 0 t after
 
 -- Entities were written, and behind them `x` is still to be read.
 pub record Went (draft list text groups : List ℕ) (s : State) (at : ℕ) (t : State) (list′ text′ : List ℕ) (x : Read) : Type 0 where
@@ -39,7 +40,7 @@ pub record Went (draft list text groups : List ℕ) (s : State) (at : ℕ) (t : 
   pub comes : ahead draft list text groups s at ≡ before es x
 
 unfoldable pub goesRound :
-    (draft list text groups : List ℕ) → State → (at : ℕ) → Round → (list′ text′ groups′ : List ℕ) → Type 0
+    (draft list text groups : List ℕ) → State → (at : ℕ) → Turn → (list′ text′ groups′ : List ℕ) → Type 0
 goesRound draft list text groups s at (On t on) list′ text′ groups′ =
     Went draft list text groups s at t list′ text′ (ahead draft list′ text′ groups′ t on)
     × Ready t list′ text′ groups′ on × (at < on) × (at < length draft)

@@ -2,26 +2,22 @@
 -- Making does.
 use Prim.Native.Nat.{ℕ, zero, suc, _+_, _-_, _*_, _<_, _≤_, _/_}
 use mathlib.Core.Path.{_≡_}
-use mathlib.Core.Bool.{Bool, false}
+use mathlib.Core.Bool.{Bool, false, not, _||_}
 use mathlib.Core.List.{List, [], _∷_}
-use lib.Dec.{eqb, ltb}
+use lib.Dec.{eqb}
 use lib.ListN.{length, getD, take, drop}
 use Rattle.chars.specs.Choice.{if_then_else_}
 use Rattle.chars.specs.Limits.{limits}
 use Rattle.chars.specs.Stream.{streamAt, clean}
 use Rattle.tokens.specs.Tokens.{simple, quoted, curly, tokens, between}
-use Rattle.tokens.specs.declared.Token.{Token}
-use Rattle.tokens.specs.declared.Token.the-variants.{Simple, Quoted, Curly, Last, Refused}
 use Rattle.tokens.specs.Runs.{classOf}
-use Rattle.reading.specs.Entity.{Entity, bare, begin-group, sizes}
-use Rattle.reading.specs.Making.{Reader, Judged, Room, Handled, stops, holds, fitted, within-groups, closing, judged, judged-last}
-use Rattle.reading.specs.Judging.{meaning, written, textWritten}
+use Rattle.scan.specs.Bytes.{beginsOf}
+use Rattle.reading.specs.Entity.{Entity, sizes}
+use Rattle.reading.specs.Making.{Reader, Judged, Room, Handled, stops, holds, fitted, closing, judged, judged-last}
+use Rattle.reading.specs.Judging.{bares, written, textWritten}
 use Rattle.reading.specs.Reading.{Read, before, readWith, roomOf, entities}
-use Rattle.reading.specs.declared.Piece.{Piece}
-use Rattle.reading.specs.declared.judge.Verdict.{Verdict}
-use Rattle.reading.specs.declared.step.State.{State}
-use Rattle.reading.specs.declared.step.Step.{Step}
-use Rattle.reading.specs.declared.step.Step.the-variants.{Goes, Stops}
+use Rattle.reading.specs.declared.state.State.{State}
+use Rattle.reading.specs.declared.state.Step.{Step}
 
 -- the open groups, innermost first
 unfoldable pub openGroups : (array : List ℕ) → (depth : ℕ) → List ℕ
@@ -44,18 +40,14 @@ judgedAs sort r place text string =
 unfoldable pub closingAs : (sort : ℕ) → (text : List ℕ) → Bool
 closingAs sort text = if eqb sort 0 then closing simple text else false
 
--- what the tokens so far leave open
+-- what the tokens so far leave open: the mode is 1 right behind `[`, 2 in a metacommand, and else 0
 unfoldable pub readerOf : State → (groups : List ℕ) → Reader
 readerOf s groups =
-    record { metacommand = s .metacommand; opened = s .opened; groups = openGroups groups (s .depth) }
+    record { metacommand = eqb (s .mode) 2; opened = eqb (s .mode) 1; groups = openGroups groups (s .depth) }
 
 -- the room that is left
 unfoldable pub roomLeft : State → (list text : List ℕ) → Room
 roomLeft s list text = record { entities = length list / 6 - s .entities; text = length text - s .text }
-
--- Clean bytes that take `raw` bytes of the draft: where these are as many, they are the draft's own.
-abbrev pub unchanged : (draft : List ℕ) → (from n raw : ℕ) → Type 0
-unchanged draft from n raw = raw ≡ n → clean n (streamAt draft from) ≡ take n (drop from draft)
 
 -- A token's text and data as reading cuts them: they are as long as it says, its text is the draft's own bytes, and its first byte is a
 -- character by itself.
@@ -89,13 +81,22 @@ pub record Spare (s : State) (list text : List ℕ) (at : ℕ) : Type 0 where
   pub used : s .text ≤ length text
   pub small : s .text ≤ 8192 * at
 
+-- what one token came to, as the code has it: the state behind it, or a number of refusal and a state that holds as much as before
+pub data Took : Type 0 where
+  Goes : State → Took
+  Stops : ℕ → State → Took
+
+unfoldable pub took : Step → Took
+took r = if eqb (r .number) 0 then Goes (r .state) else Stops (r .number) (r .state)
+
 -- What one token did, against what Making says of it: the same refusal and nothing written, or the same entities written, the same room
 -- left and the same left open.
 unfoldable pub agrees :
-    Handled → Step → (s : State) → (list text list′ text′ groups′ : List ℕ) → (place : ℕ) → Type 0
-agrees (stops n) (Stops m) s list text list′ text′ groups′ place = (m ≡ n) × (list′ ≡ list) × (text′ ≡ text)
+    Handled → Took → (s : State) → (list text list′ text′ groups′ : List ℕ) → (place : ℕ) → Type 0
+agrees (stops n) (Stops m t) s list text list′ text′ groups′ place =
+    (m ≡ n) × (list′ ≡ list) × (text′ ≡ text) × (t .entities ≡ s .entities) × (t .text ≡ s .text)
 agrees (stops n) (Goes t) s list text list′ text′ groups′ place = ⊥
-agrees (holds es room r) (Stops m) s list text list′ text′ groups′ place = ⊥
+agrees (holds es room r) (Stops m t) s list text list′ text′ groups′ place = ⊥
 agrees (holds es room r) (Goes t) s list text list′ text′ groups′ place =
     (list′ ≡ written list (s .entities) (s .text) es)
     × (text′ ≡ textWritten text (s .text) es)
@@ -105,56 +106,58 @@ agrees (holds es room r) (Goes t) s list text list′ text′ groups′ place =
     × (room ≡ roomLeft t list text)
     × Ready t list text groups′ (place + 1)
 
--- a token's first byte and its data, where its sort has any
-unfoldable pub shows : (sort c : ℕ) → (text string : List ℕ) → Type 0
-shows sort c text string = (sort ≡ 0 → getD text 0 0 ≡ c) × ((sort ≡ 1 → ⊥) → (sort ≡ 2 → ⊥) → string ≡ [])
-
--- a verdict about a token of that sort
-unfoldable pub judgesAs : Verdict → (sort c depth top : ℕ) → (metacommand opened : Bool) → Type 0
-judgesAs v sort c depth top metacommand opened =
-    (place : ℕ) (text string groups : List ℕ) → shows sort c text string → length groups ≡ depth → getD groups 0 0 ≡ top
-    → meaning v place text string groups
-    ≡ judgedAs sort (record { metacommand = metacommand; opened = opened; groups = groups }) place text string
-
 -- what the next token is known to have: data only where it is a string, and a first byte where it is simple
 unfoldable pub sorted : (sort prefix n : ℕ) → Type 0
 sorted sort prefix n = (sort ≡ 0 → 1 ≤ prefix) × ((sort ≡ 1 → ⊥) → (sort ≡ 2 → ⊥) → n ≡ 0)
 
--- a token behind `[`, which brings a begin group
-unfoldable pub inserted : Room → (groups : List ℕ) → (place : ℕ) → (Reader → Judged) → Handled
-inserted room groups place judge =
-    if ltb (length groups) (limits .groups)
-    then if eqb (room .entities) 0 then stops 18
-    else fitted room (bare begin-group place ∷ []) (judge (within-groups (1 ∷ groups)))
-    else stops 17
+-- A token whose entities have no text: 18 and nothing written where they do not fit, else they are written behind those held.
+pub data Fits (s : State) (list : List ℕ) (es : List Entity) (mode depth : ℕ) (list′ : List ℕ) (r : Step) : Type 0 where
+  short :
+      length list < 6 * (s .entities + length es) → r ≡ record { number = 18; state = s } → list′ ≡ list
+      → Fits s list es mode depth list′ r
+  room :
+      6 * (s .entities + length es) ≤ length list → list′ ≡ written list (s .entities) (s .text) es
+      → r
+      ≡ record { number = 0; state = record { mode = mode; depth = depth; entities = s .entities + length es; text = s .text } }
+      → Fits s list es mode depth list′ r
 
--- the state in which a token other than `]` is judged in regular mode: the begin group that it brings is open
-unfoldable pub enteredBy : State → State
-enteredBy s =
-    record {
-      metacommand = false;
-      opened = false;
-      depth = if s .opened then s .depth + 1 else s .depth;
-      entities = s .entities;
-      text = s .text;
-    }
+-- What its own rules make of a simple token whose first byte is `c`, behind an inserted begin group (`lead` is 6) or none (0), where it has
+-- no text.
+unfoldable pub Ruled :
+    (c lead : ℕ) → State → (list groups : List ℕ) → (place : ℕ) → Step → (list′ groups′ : List ℕ) → Type 0
+Ruled c lead s list groups place r list′ groups′ =
+    (T text : List ℕ) → getD T 0 0 ≡ c → Ready s list text groups place
+    → agrees
+    (fitted (roomLeft s list text) (bares lead place) (judgedAs 0 (readerOf s groups) place T []))
+    (took r)
+    s
+    list
+    text
+    list′
+    text
+    groups′
+    place
 
--- and the groups that are open then
-unfoldable pub enteredGroups : State → (groups : List ℕ) → List ℕ
-enteredGroups s groups = if s .opened then 1 ∷ groups else groups
+-- ( ) [ ] , % ; which are tokens alone and have no text where no metacommand is open
+unfoldable pub structural : (c : ℕ) → Bool
+structural c = eqb (beginsOf c) 3
 
--- a token as the code takes it apart: 4 stands for a refusal, and a part that it has not is 0
-unfoldable pub pieceOf : Token → Piece
-pieceOf (Simple place after length) =
-    record { sort = 0; place = place; after = after; prefix = length; from = 0; bytes = 0; number = 0 }
-pieceOf (Quoted place after prefix from length) =
-    record { sort = 1; place = place; after = after; prefix = prefix; from = from; bytes = length; number = 0 }
-pieceOf (Curly place after prefix from length) =
-    record { sort = 2; place = place; after = after; prefix = prefix; from = from; bytes = length; number = 0 }
-pieceOf (Last place after) =
-    record { sort = 3; place = place; after = after; prefix = 0; from = 0; bytes = 0; number = 0 }
-pieceOf (Refused number place) =
-    record { sort = 4; place = place; after = 0; prefix = 0; from = 0; bytes = 0; number = number }
+-- a simple token that has text, by its first byte: in a metacommand all but % and ;
+unfoldable pub worded : (metacommand : Bool) → (c : ℕ) → Bool
+worded metacommand c = if metacommand then not (eqb c 0x25 || eqb c 0x3B) else not (structural c)
+
+-- Whether a token brings a begin group: any behind `[` but `]`. The state in which it is judged then, and the groups that are open.
+unfoldable pub enteredBy : (brings : Bool) → State → State
+enteredBy brings s =
+    if brings
+    then record { mode = 0; depth = s .depth + 1; entities = s .entities; text = s .text }
+    else s
+
+unfoldable pub enteredGroups : (brings : Bool) → (groups : List ℕ) → List ℕ
+enteredGroups brings groups = if brings then 1 ∷ groups else groups
+
+unfoldable pub leadOf : (brings : Bool) → ℕ
+leadOf brings = if brings then 6 else 0
 
 -- What is read so far: entities that both buffers hold, and behind them `x` is still to be read.
 pub record SoFar (draft list₀ text₀ list text groups : List ℕ) (s : State) (at : ℕ) (x : Read) : Type 0 where

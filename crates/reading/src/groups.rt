@@ -1,51 +1,41 @@
-// The open groups: one array of numbers, of which the first `depth` are open, the innermost last. 0 is a group of its own, n the nth
-// element of an array.
+// `(` and `)` (Shastina Specification, section 5.2).
 ghost use mathlib.Core.Path.{_≡_};
-ghost use mathlib.Core.List.{_∷_};
-ghost use Prim.Native.Nat.{ℕ, _+_, _<_, _≤_, _^_};
-ghost use lib.ListN.{length, getD};
-ghost use Rattle.reading.specs.Judging.{groupsAfter};
-ghost use Rattle.reading.specs.Stepping.{openGroups, below};
+ghost use mathlib.Core.Bool.{false};
+ghost use Prim.Native.Nat.{_<_, _≤_};
+ghost use lib.Dec.{eqb};
+ghost use Rattle.reading.specs.Stepping.{Steady, Ruled};
+use crate::bare::one;
+use crate::bare::stops;
+use crate::open::push;
+use crate::open::top;
+use crate::state::State;
+use crate::state::Step;
+use chars::limits;
 
-// The innermost, or 0 where none is open.
-pub fn top(groups: &[u32], depth: usize) -> u32
-    requires { ⌜ (depth ≤ 64) × (length (now groups) ≡ 64) ⌝ }
-    ensures { λ r. ⌜ r ≡ getD (openGroups (now (groups .entry)) depth) 0 0 ⌝ }
+// `(`: 17 over the limit.
+pub fn group_begins(list: &mut [u32], groups: &mut [u32], s: State, lead: u32, place: usize) -> Step
+    requires { ⌜ (lead ≤ 17) × (eqb (s .mode) 2 ≡ false) × (place < 16384) × Steady s (now list) (now groups) place ⌝ }
+    ensures { λ r. ⌜ Ruled 0x28 lead s (now (list .entry)) (now (groups .entry)) place r (now (list .exit)) (now (groups .exit)) ⌝ }
 {
-    if depth == 0 {
-        return 0;
+    let depth = s.depth;
+    if limits::GROUPS <= depth {
+        return stops(17, s);
     }
-    groups[depth - 1]
+    push(groups, depth, 0);
+    one(list, s, lead, 6, place, 0, depth + 1)
 }
 
-// One more, the innermost.
-pub fn push(groups: &mut [u32], depth: usize, number: u32)
-    requires { ⌜ (depth < 64) × (length (now groups) ≡ 64) ⌝ }
-    ensures { λ r. ⌜ openGroups (now (groups .exit)) (depth + 1) ≡ number ∷ openGroups (now (groups .entry)) depth ⌝ }
+// `)`: 14 where the innermost open group is none of its own.
+pub fn group_ends(list: &mut [u32], groups: &mut [u32], s: State, lead: u32, place: usize) -> Step
+    requires { ⌜ (lead ≤ 17) × (eqb (s .mode) 2 ≡ false) × (place < 16384) × Steady s (now list) (now groups) place ⌝ }
+    ensures { λ r. ⌜ Ruled 0x29 lead s (now (list .entry)) (now (groups .entry)) place r (now (list .exit)) (now (groups .exit)) ⌝ }
 {
-    groups[depth] = number;
-}
-
-// What a token does to them; answers how many are open then.
-pub fn change(groups: &mut [u32], depth: usize, change: u32) -> usize
-    requires { ⌜ (depth ≤ 64) × (length (now groups) ≡ 64) × (change ≡ 1 → depth < 64)
-        × (getD (openGroups (now groups) depth) 0 0 + 1 < 2 ^ 32) ⌝ }
-    ensures { λ r. ⌜ (openGroups (now (groups .exit)) r ≡ groupsAfter change (openGroups (now (groups .entry)) depth)) × (r ≤ 64) ⌝ }
-{
-    if change == 0 {
-        return depth;
-    }
-    if change == 1 {
-        groups[depth] = 0;
-        return depth + 1;
-    }
+    let depth = s.depth;
     if depth == 0 {
-        return 0;
+        return stops(14, s);
     }
-    let last = depth - 1;
-    if change == 2 {
-        return last;
+    if top(groups, depth) != 0 {
+        return stops(14, s);
     }
-    groups[last] = groups[last] + 1;
-    depth
+    one(list, s, lead, 7, place, 0, depth - 1)
 }

@@ -3,23 +3,23 @@ ghost use mathlib.Core.Path.{_≡_};
 ghost use Prim.Native.Nat.{_≤_};
 ghost use lib.ListN.{length};
 ghost use Rattle.chars.specs.Limits.{limits as base};
-ghost use Rattle.reading.specs.Stepping.{pieceOf};
 ghost use Rattle.reading.specs.Reading.{reading as readingOf};
 
-mod atoms;
-mod entities;
+mod arrays;
+mod bare;
+mod brought;
 mod groups;
-mod judge;
+mod last;
+mod metacommands;
+mod open;
 mod round;
-mod rows;
-mod step;
-mod words;
+mod state;
+mod structure;
+mod texts;
 
 use chars::limits;
-use round::Round;
 use round::go_round;
-use step::State;
-use tokens::Token;
+use state::State;
 
 // The answer of read and of check. A number that an answer has no use for is 0.
 #[repr(C)]
@@ -38,76 +38,8 @@ pub struct Answer {
     pub cells: u64,
 }
 
-// A token taken apart: 0 simple, 1 quoted, 2 curly, 3 the last, 4 a refusal. A part that it has not is 0.
-pub struct Piece {
-    pub sort: u32,
-    pub place: usize,
-    pub after: usize,
-    pub prefix: usize,
-    pub from: usize,
-    pub bytes: usize,
-    pub number: u32,
-}
-
-// A token that is no refusal.
-fn whole(sort: u32, place: usize, after: usize, prefix: usize, from: usize, bytes: usize) -> Piece
-    ensures { λ r. ⌜ r ≡ record { sort = sort; place = place; after = after; prefix = prefix; from = from; bytes = bytes; number = 0 } ⌝ }
-{
-    Piece {
-        sort,
-        place,
-        after,
-        prefix,
-        from,
-        bytes,
-        number: 0,
-    }
-}
-
-fn refused(number: u32, place: usize) -> Piece
-    ensures { λ r. ⌜ r ≡ record { sort = 4; place = place; after = 0; prefix = 0; from = 0; bytes = 0; number = number } ⌝ }
-{
-    Piece {
-        sort: 4,
-        place,
-        after: 0,
-        prefix: 0,
-        from: 0,
-        bytes: 0,
-        number,
-    }
-}
-
-fn apart(token: Token) -> Piece
-    ensures { λ r. ⌜ r ≡ pieceOf token ⌝ }
-{
-    match token {
-        Token::Simple {
-            place,
-            after,
-            length,
-        } => whole(0, place, after, length, 0, 0),
-        Token::Quoted {
-            place,
-            after,
-            prefix,
-            from,
-            length,
-        } => whole(1, place, after, prefix, from, length),
-        Token::Curly {
-            place,
-            after,
-            prefix,
-            from,
-            length,
-        } => whole(2, place, after, prefix, from, length),
-        Token::Last { place, after } => whole(3, place, after, 0, 0, 0),
-        Token::Refused { number, place } => refused(number, place),
-    }
-}
-
 // An answer of read.
-fn told(number: u32, place: usize, s: State, consumed: usize) -> Answer
+fn told(number: usize, place: usize, s: State, consumed: usize) -> Answer
     ensures { λ r. ⌜ r ≡ record {
       number = number;
       place = place;
@@ -138,28 +70,19 @@ fn walk(draft: &[u8], list: &mut [u32], text: &mut [u8], groups: &mut [u32]) -> 
 {
     let mut at = chars::start(draft);
     let mut s = State {
-        metacommand: false,
-        opened: false,
+        mode: 0,
         depth: 0,
         entities: 0,
         text: 0,
     };
     loop {
         let r = go_round(draft, list, text, groups, s, at);
-        match r {
-            Round::Over {
-                number,
-                place,
-                state,
-                after,
-            } => {
-                return told(number, place, state, after);
-            }
-            Round::On { state, at: next } => {
-                s = state;
-                at = next;
-            }
+        let state = r.state;
+        if r.over != 0 {
+            return told(r.number, r.place, state, r.after);
         }
+        s = state;
+        at = r.after;
     }
 }
 

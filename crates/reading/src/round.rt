@@ -1,156 +1,118 @@
 // One round of reading: what stands at a place is taken, and reading goes on behind it or is over.
 ghost use mathlib.Core.Path.{_≡_};
-ghost use mathlib.Core.Bool.{true, not, _&&_};
-ghost use Prim.Native.Nat.{_≤_};
-ghost use lib.ListN.{length};
-ghost use Rattle.tokens.specs.Sorts.{white};
-ghost use Rattle.tokens.specs.Runs.{classOf};
-ghost use Rattle.reading.specs.Stepping.{Ready};
-ghost use Rattle.reading.specs.Rounds.{goesRound, behindOf, endedOf};
-use crate::apart;
-use crate::atoms::atom;
-use crate::atoms::is_atom;
-use crate::step::State;
-use crate::step::Step;
-use crate::step::take;
-use crate::words::take_word;
+ghost use Prim.Native.Nat.{_≤_, _<_};
+ghost use lib.ListN.{length, getD};
+ghost use Rattle.scan.specs.Bytes.{beginsOf};
+ghost use Rattle.reading.specs.Stepping.{Ready, took};
+ghost use Rattle.reading.specs.Rounds.{goesRound, turn, behindOf, endedOf};
+use crate::last::last;
+use crate::metacommands::metacommand_ends;
+use crate::state::State;
+use crate::state::Step;
+use crate::structure::structure;
+use crate::texts::take;
 
-// What a round comes to.
-pub enum Round {
-    // Reading goes on at a place.
-    On {
-        state: State,
-        at: usize,
-    },
-    // Reading is over: 0 and the byte after `;`, or a refusal and its place.
-    Over {
-        number: u32,
-        place: usize,
-        state: State,
-        after: usize,
-    },
+// What a round comes to. All are numbers of one width, as in state.rt.
+pub struct Round {
+    // 0 where reading goes on, 1 where it is over.
+    pub over: usize,
+    // Where it is over: 0, or a refusal and its place.
+    pub number: usize,
+    pub place: usize,
+    // Where reading goes on, or the byte after `;`.
+    pub after: usize,
+    pub state: State,
 }
 
-// Whether neither a metacommand is open nor an array has just begun.
-fn regular(s: State) -> bool
-    ensures { λ r. ⌜ r ≡ (not (s .metacommand) && not (s .opened)) ⌝ }
+// Reading goes on at a place.
+fn on(s: State, after: usize) -> Round
+    ensures { λ r. ⌜ r ≡ record { over = 0; number = 0; place = 0; after = after; state = s } ⌝ }
 {
-    let metacommand = s.metacommand;
-    let opened = s.opened;
-    if metacommand {
-        return false;
+    Round {
+        over: 0,
+        number: 0,
+        place: 0,
+        after,
+        state: s,
     }
-    !opened
+}
+
+// A refusal.
+fn over(number: usize, place: usize, s: State) -> Round
+    ensures { λ r. ⌜ r ≡ record { over = 1; number = number; place = place; after = 0; state = s } ⌝ }
+{
+    Round {
+        over: 1,
+        number,
+        place,
+        after: 0,
+        state: s,
+    }
 }
 
 // A round whose token is not the last: behind it, or over at its place.
-fn behind(step: Step, s: State, place: usize, after: usize) -> Round
-    ensures { λ r. ⌜ r ≡ behindOf step s place after ⌝ }
+fn behind(step: Step, place: usize, after: usize) -> Round
+    ensures { λ r. ⌜ turn r ≡ behindOf (took step) place after ⌝ }
 {
-    match step {
-        Step::Stops { number } => Round::Over {
-            number,
-            place,
-            state: s,
-            after: 0,
-        },
-        Step::Goes { state } => Round::On { state, at: after },
+    let number = step.number;
+    let state = step.state;
+    if number != 0 {
+        return over(number, place, state);
     }
+    on(state, after)
 }
 
 // A round whose token is the last.
-fn ended(step: Step, s: State, place: usize, after: usize) -> Round
-    ensures { λ r. ⌜ r ≡ endedOf step s place after ⌝ }
+fn ended(step: Step, place: usize, after: usize) -> Round
+    ensures { λ r. ⌜ turn r ≡ endedOf (took step) place after ⌝ }
 {
-    match step {
-        Step::Stops { number } => Round::Over {
-            number,
-            place,
-            state: s,
-            after: 0,
-        },
-        Step::Goes { state } => Round::Over {
-            number: 0,
-            place: 0,
-            state,
-            after,
-        },
+    let number = step.number;
+    let state = step.state;
+    if number != 0 {
+        return over(number, place, state);
+    }
+    Round {
+        over: 1,
+        number: 0,
+        place: 0,
+        after,
+        state,
     }
 }
 
-// SP and LF, the whitespace that drafts are full of.
-fn is_blank(b: u8) -> bool
-    ensures { λ r. ⌜ (r ≡ true → (white b ≡ true) × (1 ≤ classOf b)) ⌝ }
-{
-    if b == b' ' {
-        return true;
-    }
-    b == b'\n'
-}
-
-// The state behind `[`.
-fn array_begins(s: State) -> State
-    ensures { λ r. ⌜ r
-        ≡ record { metacommand = s .metacommand; opened = true; depth = s .depth; entities = s .entities; text = s .text } ⌝ }
-{
-    let metacommand = s.metacommand;
-    let depth = s.depth;
-    let entities = s.entities;
-    let text = s.text;
-    State {
-        metacommand,
-        opened: true,
-        depth,
-        entities,
-        text,
-    }
-}
-
-// Any token.
-fn any(
+// A comment, a string, a word or `|;`.
+fn piece(
     draft: &[u8],
     list: &mut [u32],
     text: &mut [u8],
     groups: &mut [u32],
     s: State,
     at: usize,
+    begins: u32,
 ) -> Round
-    requires { ⌜ (length (now draft) ≤ 16384) × Ready s (now list) (now text) (now groups) at ⌝ }
-    ensures { λ r. ⌜ goesRound (now (draft .entry)) (now (list .entry)) (now (text .entry)) (now (groups .entry)) s at r (now (list .exit))
-        (now (text .exit)) (now (groups .exit)) ⌝ }
+    requires { ⌜ (length (now draft) ≤ 16384) × Ready s (now list) (now text) (now groups) at × (at < length (now draft))
+        × (begins ≡ beginsOf (getD (now draft) at 0))
+        × (begins ≡ 3 → (s .mode ≡ 2) × (getD (now draft) at 0 ≡ 0x25 → ⊥) × (getD (now draft) at 0 ≡ 0x3B → ⊥)) ⌝ }
+    ensures { λ r. ⌜ goesRound (now (draft .entry)) (now (list .entry)) (now (text .entry)) (now (groups .entry)) s at (turn r)
+        (now (list .exit)) (now (text .exit)) (now (groups .exit)) ⌝ }
 {
-    let p = apart(tokens::token_at(draft, at));
+    let p = scan::found(draft, at, begins);
     let sort = p.sort;
     let place = p.place;
     let after = p.after;
+    if sort == 5 {
+        return on(s, after);
+    }
     if sort == 4 {
-        return Round::Over {
-            number: p.number,
-            place,
-            state: s,
-            after: 0,
-        };
+        return over(p.number as usize, place, s);
     }
-    let done = take(
-        draft,
-        list,
-        text,
-        groups,
-        s,
-        sort,
-        place,
-        p.prefix,
-        p.from,
-        p.bytes,
-        after,
-    );
     if sort == 3 {
-        return ended(done, s, place, after);
+        return ended(last(list, groups, s, place), place, after);
     }
-    behind(done, s, place, after)
+    behind(take(draft, list, text, groups, s, p), place, after)
 }
 
-// The next round. Whitespace, the bytes of groups and arrays, and words are taken as they stand.
+// The next round, told by the byte that stands there.
 pub fn go_round(
     draft: &[u8],
     list: &mut [u32],
@@ -160,35 +122,28 @@ pub fn go_round(
     at: usize,
 ) -> Round
     requires { ⌜ (length (now draft) ≤ 16384) × Ready s (now list) (now text) (now groups) at ⌝ }
-    ensures { λ r. ⌜ goesRound (now (draft .entry)) (now (list .entry)) (now (text .entry)) (now (groups .entry)) s at r (now (list .exit))
-        (now (text .exit)) (now (groups .exit)) ⌝ }
+    ensures { λ r. ⌜ goesRound (now (draft .entry)) (now (list .entry)) (now (text .entry)) (now (groups .entry)) s at (turn r)
+        (now (list .exit)) (now (text .exit)) (now (groups .exit)) ⌝ }
 {
-    if at < draft.len() {
-        let b = draft[at];
-        if is_blank(b) {
-            return Round::On {
-                state: s,
-                at: at + 1,
-            };
+    if draft.len() <= at {
+        return over(7, draft.len(), s);
+    }
+    let b = draft[at];
+    let begins = scan::byte::begins(b);
+    if begins == 1 {
+        return on(s, at + 1);
+    }
+    let mode = s.mode;
+    if begins == 3 {
+        if mode != 2 {
+            return behind(structure(list, groups, s, b, at), at, at + 1);
         }
-        if regular(s) {
-            if is_atom(b) {
-                let step = atom(list, groups, s, b, at);
-                return behind(step, s, at, at + 1);
-            }
-            if b == b'[' {
-                let state = array_begins(s);
-                return Round::On { state, at: at + 1 };
-            }
+        if b == b'%' {
+            return over(10, at, s);
         }
-        let metacommand = s.metacommand;
-        if !metacommand {
-            let end = tokens::word_end(draft, at);
-            if end != 0 {
-                let step = take_word(draft, list, text, groups, s, b, at, end - at);
-                return behind(step, s, at, end);
-            }
+        if b == b';' {
+            return behind(metacommand_ends(list, groups, s, at), at, at + 1);
         }
     }
-    any(draft, list, text, groups, s, at)
+    piece(draft, list, text, groups, s, at, begins)
 }

@@ -5,8 +5,9 @@ use Prim.Native.Nat.{_-_, _≤_}
 use native.Mathlib.Omega.{arith}
 use lib.ListN.{length}
 use borrow.Author.Needs.{needs}
+use borrow.Author.Tests.{eq-eqb, ne-eqb}
 use Rattle.reading.specs.Stepping.{SoFar, ahead}
-use Rattle.reading.specs.Rounds.{goesRound}
+use Rattle.reading.specs.Rounds.{goesRound, turn}
 use Rattle.reading.proofs.Walking.{at-first, further, finished}
 use Rattle.reading.proofs.walk.Statement.{statement}
 use Rattle.reading.proofs.walk.Tie as tie
@@ -28,11 +29,7 @@ loop-holds c =
     (rw (c .start .ensures) (at-first (a .draft .now) (a .list .now) (a .text .now) (a .groups .now) (p .0) (p .1)), p .0)
 
 go-round-requires : tie.Need-go-round-requires Inv-loop μ-loop
-go-round-requires c κs =
-    (c .before .before .before .loop .inv .1, c .before .before .before .loop .inv .0 .ready)
-
-enum-known-r : tie.Need-enum-known-r Inv-loop μ-loop
-enum-known-r c = search needs
+go-round-requires c κs = (c .before .before .before .loop .inv .1, c .before .before .before .loop .inv .0 .ready)
 
 told-requires : tie.Need-told-requires Inv-loop μ-loop
 told-requires c κs = search needs
@@ -44,46 +41,46 @@ same-length-2 : tie.Need-same-length-2 Inv-loop μ-loop
 same-length-2 c = search needs
 
 same-length-3 : tie.Need-same-length-3 Inv-loop μ-loop
-same-length-3 c =
-    omega (
-      arith,
-      c .before .before .before .before .before .before .before .before .before .before .go-round .kept,
-      c .before .before .before .before .before .before .before .before .before .before .before .before .before .before .loop .inv .0
-          .ready .array,
-      c .before .before .before .before .before .before .before .before .before .before .before .before .before .before
-          .before .before .before .before .before .before .pre .1,
-    )
+same-length-3 c = omega (
+  arith,
+  c .before .before .before .before .before .before .before .before .before .before .go-round .kept,
+  c
+      .before .before .before .before .before .before .before .before .before .before .before .before .before .before .loop .inv .0 .ready
+      .array,
+  c .before .before .before .before .before .before .before .before .before .before .before .before .before .before .before
+      .before .before .before .before .before .pre .1,
+)
 
 returns : tie.Need-returns Inv-loop μ-loop
+unfolding turn
 returns c =
     let after-go-round = c .before .before .before .before .before .before .before .before .before .before .go-round in
     let a = c .before .before .before .before .before .before .before .before .before .before .before .before .before .before .before
     .before .before .before .before .before .args in
     let l = c .before .before .before .before .before .before .before .before .before .before .before .before .before .before .loop in
     let e = after-go-round .last in
-    let held = finished (a .draft .now) (a .list .now) (a .text .now) (l .list) (l .text) (l .groups) (l .s) (l .at) (l .inv .0) _ (e .1 .0)
-    (e .1 .1 .0) (e .1 .1 .1 .0) _ _ _ (rw (c .before .before .r .given .1) at (after-go-round .ensures)) in
+    let r = after-go-round .result in
+    let held = finished (a .draft .now) (a .list .now) (a .text .now) (l .list) (l .text) (l .groups) (l .s) (l .at) (l .inv .0) (r .state)
+    (e .1 .0) (e .1 .1 .0) (e .1 .1 .1 .0) (r .number) (r .place) (r .after)
+    (rw (ne-eqb (r .over) 0 (c .before .if1 .taken)) at (after-go-round .ensures)) in
     (c .told .ensures ∙ held .0, (held .1, held .2))
 
-enum-known-r-2 : tie.Need-enum-known-r-2 Inv-loop μ-loop
-enum-known-r-2 c = search needs
-
 loop-less : tie.Need-loop-less Inv-loop μ-loop
-unfolding goesRound
+unfolding goesRound turn
 loop-less c =
-    let went = rw (c .before .r2 .given .1) at
-    (c .before .before .before .before .before .before .before .before .before .go-round .ensures) in
+    let after-go-round = c .before .before .before .before .before .before .before .before .before .go-round in
+    let went = rw (eq-eqb (after-go-round .result .over) 0 (c .if1 .left)) at (after-go-round .ensures) in
     omega (arith, went .2, went .3)
 
 loop-again : tie.Need-loop-again Inv-loop μ-loop
-unfolding goesRound
+unfolding goesRound turn
 loop-again c =
     let after-go-round = c .before .before .before .before .before .before .before .before .before .go-round in
     let a = c .before .before .before .before .before .before .before .before .before .before .before .before .before .before .before
     .before .before .before .before .args in
     let l = c .before .before .before .before .before .before .before .before .before .before .before .before .before .loop in
     let e = after-go-round .last in
-    let went = rw (c .before .r2 .given .1) at (after-go-round .ensures) in (
+    let went = rw (eq-eqb (after-go-round .result .over) 0 (c .if1 .left)) at (after-go-round .ensures) in (
       further (a .draft .now) (a .list .now) (a .text .now) (l .list) (l .text) (l .groups) (l .s) (l .at) (l .inv .0) _ (e .1 .0)
           (e .1 .1 .0) _ (went .0) (e .1 .1 .1 .0) _ (omega (arith, after-go-round .kept)) (omega (arith, after-go-round .kept)) (went .1),
       l .inv .1,
@@ -98,12 +95,10 @@ walk-spec =
     start-requires
     loop-holds
     go-round-requires
-    enum-known-r
     told-requires
     same-length
     same-length-2
     same-length-3
     returns
-    enum-known-r-2
     loop-less
     loop-again)

@@ -1,22 +1,25 @@
--- `reading::round::behind` meets its contract: a step has two cases. Assumes nothing.
+-- `reading::round::behind` meets its contract: a step goes on where its number is 0. Assumes nothing.
+use mathlib.Core.Path.{sym, _∙_}
 use borrow.Author.Needs.{needs}
-use Rattle.reading.specs.Rounds.{behindOf}
+use borrow.Author.Tests.{eq-eqb, ne-eqb}
+use Rattle.reading.specs.Stepping.{took}
+use Rattle.reading.specs.Rounds.{turn, behindOf}
 use Rattle.reading.proofs.round.behind.Statement.{statement}
 use Rattle.reading.proofs.round.behind.Tie as tie
 
-enum-known-step : tie.Need-enum-known-step
-enum-known-step c = search needs
-
-enum-known-step-2 : tie.Need-enum-known-step-2
-enum-known-step-2 c = search needs
+over-requires : tie.Need-over-requires
+over-requires c κs = search needs
 
 returns : tie.Need-returns
-unfolding behindOf
-returns c = rw (c .before .step .given .1)
+unfolding turn took behindOf
+returns c = rw (c .over .ensures, ne-eqb (c .before .before .before .args .step .number) 0 (c .before .if1 .taken))
+
+on-requires : tie.Need-on-requires
+on-requires c κs = search needs
 
 returns-2 : tie.Need-returns-2
-unfolding behindOf
-returns-2 c = rw (c .before .step2 .given .1)
+unfolding turn took behindOf
+returns-2 c = rw (c .on .ensures, eq-eqb (c .before .before .before .args .step .number) 0 (c .before .if1 .left))
 
 pub behind-spec : {M : Type 1} → statement M
-behind-spec = tie.close (tie.spec enum-known-step enum-known-step-2 returns returns-2)
+behind-spec = tie.close (tie.spec over-requires returns on-requires returns-2)

@@ -1,22 +1,21 @@
--- `reading::round::ended` meets its contract: a step has two cases. Assumes nothing.
+-- `reading::round::ended` meets its contract: a step goes on where its number is 0. Assumes nothing.
 use borrow.Author.Needs.{needs}
-use Rattle.reading.specs.Rounds.{endedOf}
+use borrow.Author.Tests.{eq-eqb, ne-eqb}
+use Rattle.reading.specs.Stepping.{took}
+use Rattle.reading.specs.Rounds.{turn, endedOf}
 use Rattle.reading.proofs.round.ended.Statement.{statement}
 use Rattle.reading.proofs.round.ended.Tie as tie
 
-enum-known-step : tie.Need-enum-known-step
-enum-known-step c = search needs
-
-enum-known-step-2 : tie.Need-enum-known-step-2
-enum-known-step-2 c = search needs
+over-requires : tie.Need-over-requires
+over-requires c κs = search needs
 
 returns : tie.Need-returns
-unfolding endedOf
-returns c = rw (c .before .step .given .1)
+unfolding turn took endedOf
+returns c = rw (c .over .ensures, ne-eqb (c .before .before .before .args .step .number) 0 (c .before .if1 .taken))
 
 returns-2 : tie.Need-returns-2
-unfolding endedOf
-returns-2 c = rw (c .before .step2 .given .1)
+unfolding turn took endedOf
+returns-2 c = rw (eq-eqb (c .before .before .args .step .number) 0 (c .if1 .left))
 
 pub ended-spec : {M : Type 1} → statement M
-ended-spec = tie.close (tie.spec enum-known-step enum-known-step-2 returns returns-2)
+ended-spec = tie.close (tie.spec over-requires returns returns-2)
