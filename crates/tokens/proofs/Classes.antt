@@ -1,11 +1,11 @@
 -- What a byte's class tells of it. Each fact is one test that antt computes over all of US-ASCII; a byte above that has class 0.
 use mathlib.Core.Path.{_≡_, refl, sym, _∙_}
-use mathlib.Core.Bool.{Bool, true, false, not, _&&_, _||_, or-true, and-false, false≢true}
+use mathlib.Core.Bool.{Bool, true, false, not, _&&_, or-true, and-false, false≢true}
 use Prim.Native.Nat.{ℕ, suc, _<_, _≤_}
 use native.Mathlib.Omega.{arith}
 use lib.Dec.{leb, eqb}
 use borrow.Author.Tests.{le-leb, lt-leb, leb-true, leb-false, eqb-true, eqb-false, ne-eqb, not-true}
-use Rattle.chars.specs.Choice.{if_then_else_, within}
+use Rattle.chars.specs.Choice.{within}
 use Rattle.chars.proofs.Cases.{either, both}
 use Rattle.tokens.specs.Sorts.{visible, white, atomic, exclusive, inclusive, legal}
 use Rattle.tokens.specs.Runs.{classOf}
@@ -66,11 +66,6 @@ is-white b g l = of-class 8 9 white refl b (low b (omega arith)) g l
 pub not-white : (b : ℕ) → 1 ≤ classOf b → classOf b ≤ 7 → white b ≡ false
 unfolding classOf visible white atomic exclusive inclusive legal
 not-white b g l = fails 1 7 white refl b (low b g) g l
-
--- LF is class 9
-pub not-line : (b : ℕ) → 1 ≤ classOf b → classOf b ≤ 8 → eqb b 0x0A ≡ false
-unfolding classOf visible white atomic exclusive inclusive legal
-not-line b g l = fails 1 8 (λ k. eqb k 0x0A) refl b (low b g) g l
 
 -- what classes 3 and 4 are: a token goes on
 pub record Plain (b : ℕ) : Type 0 where

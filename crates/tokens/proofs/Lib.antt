@@ -2,7 +2,7 @@ pub mod Computes
 pub mod Table
 pub mod Arms
 pub mod Passing
-pub mod Eight
+pub mod Bytes
 pub mod Classes
 pub mod Skipping
 pub mod Standing

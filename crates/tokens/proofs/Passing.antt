@@ -1,18 +1,18 @@
 -- A run of bytes whose class is in a range, one byte at a time. Whatever each such byte leaves as it is, the whole run leaves as it is, and
 -- where a run ends early it ends at a byte of another class.
-use mathlib.Core.Path.{_≡_, refl, sym, _∙_, ap}
-use mathlib.Core.Bool.{Bool, true, false}
-use mathlib.Core.List.{List, [], _∷_}
+use mathlib.Core.Path.{_≡_, refl, _∙_, ap}
+use mathlib.Core.Bool.{true, false}
+use mathlib.Core.List.{List}
 use Prim.Native.Nat.{ℕ, zero, suc, _+_, _-_, _<_, _≤_}
 use native.Mathlib.Omega.{arith}
 use native.Mathlib.Numerals.{add-one}
-use native.Mathlib.Nat.{zero-add, add-zero, add-suc, suc-add}
-use lib.ListN.{length, getD, take, drop}
-use lib.Seq.{drop-cons, drop-drop}
+use native.Mathlib.Nat.{add-zero, add-suc, suc-add}
+use lib.ListN.{length, getD, drop}
+use lib.Seq.{drop-cons}
 use borrow.Author.Tests.{le-leb, lt-leb}
 use Rattle.chars.specs.Choice.{within}
-use Rattle.chars.proofs.Cases.{either, by-test}
-use Rattle.chars.proofs.Extent.{within-true, inside as within-is}
+use Rattle.chars.proofs.Cases.{either}
+use Rattle.chars.proofs.Extent.{within-true}
 use Rattle.tokens.specs.Runs.{classOf, run}
 
 -- the class of a draft's byte
@@ -27,32 +27,6 @@ stepwise F (suc n) i step =
     let on : i + 1 + n ≡ i + suc n = omega arith in
     step i (omega arith) (omega arith)
     ∙ (stepwise F n (i + 1) (λ j g l. step j (omega arith) (omega arith)) ∙ ap F on)
-
--- a run over all of the first `n` bytes, in a wider range of classes
-pub wider :
-    (low high l h : ℕ) → low ≤ l → h ≤ high → (n : ℕ) (bytes : List ℕ) → run l h n (take n bytes) ≡ n → run low high n bytes ≡ n
-unfolding run
-wider low high l h g k zero bytes e = refl
-wider low high l h g k (suc n) [] e = absurd (omega arith)
-wider low high l h g k (suc n) (b ∷ bytes) e =
-    by-test (within l h (classOf b))
-    (λ t e.
-    let r = within-true l h (classOf b) t in
-    rw (within-is low high (classOf b) (omega arith) (omega arith), wider low high l h g k n bytes (omega arith)))
-    (λ t e. absurd (omega arith))
-    e
-
--- and a longer one, which goes on behind them
-further :
-    (low high k n : ℕ) (bytes : List ℕ) → run low high n bytes ≡ n → run low high (n + k) bytes ≡ n + run low high k (drop n bytes)
-unfolding run
-further low high k zero bytes e = simp zero-add
-further low high k (suc n) [] e = absurd (omega arith)
-further low high k (suc n) (b ∷ bytes) e =
-    by-test (within low high (classOf b))
-    (λ t e. rw (suc-add n k, suc-add n (run low high k (drop n bytes)), t, further low high k n bytes (omega arith)))
-    (λ t e. absurd (omega arith))
-    e
 
 module _ (low high : ℕ) (draft : List ℕ) where
   pub inside :
@@ -112,14 +86,6 @@ module _ (low high : ℕ) (draft : List ℕ) where
       let less : end - i ≡ suc (end - suc i) = omega arith in
       let t : within low high (class-at draft i) ≡ true = simp (le-leb low (class-at draft i) a, le-leb (class-at draft i) high b) in
       rw (less, add-one, inside (end - suc i) i (omega arith) t, add-suc, suc-add)
-
-  -- and with `n` bytes at once
-  pub onward-all :
-      (n i end : ℕ) → i + n ≤ end → run low high n (drop i draft) ≡ n
-      → (i + n) + run low high (end - (i + n)) (drop (i + n) draft) ≡ i + run low high (end - i) (drop i draft)
-  onward-all n i end h e =
-      let k : end - i ≡ n + (end - (i + n)) = omega arith in
-      rw (k, further low high (end - (i + n)) n (drop i draft) e, drop-drop n i draft) (omega arith)
 
   pub halted :
       (i end : ℕ) → i < length draft → within low high (class-at draft i) ≡ false → i ≡ i + run low high (end - i) (drop i draft)

@@ -1,7 +1,7 @@
--- Whitespace and comments, as loops pass over them. A run of blanks or of a comment's bytes leaves what stands behind it as it is; what is
--- left is a character that cleaning gives, or the stream's end, and there the definitions stop as well.
+-- Whitespace and comments, as loops pass over them. A run of blanks, or a comment's character, leaves what stands behind it as it is; what
+-- is left is a character that cleaning gives, or the stream's end, and there the definitions stop as well.
 use mathlib.Core.Path.{_≡_, refl, sym, _∙_, ap}
-use mathlib.Core.Bool.{Bool, true, false, not}
+use mathlib.Core.Bool.{true, false, not}
 use mathlib.Core.List.{List}
 use Prim.Native.Nat.{ℕ, zero, suc, _+_, _-_, _<_, _≤_}
 use native.Mathlib.Omega.{arith}
@@ -10,20 +10,18 @@ use lib.Dec.{leb, eqb, ltb}
 use lib.ListN.{length, getD, drop, length-drop}
 use lib.Seq.{getD-drop}
 use borrow.Author.Tests.{eq-eqb, ne-eqb, ltb-true, ltb-false, leb-true, leb-false}
-use Rattle.chars.specs.Choice.{if_then_else_, within}
-use Rattle.chars.specs.Limits.{Limits}
-use Rattle.chars.specs.Character.{characterAt, told}
+use Rattle.chars.specs.Choice.{within}
+use Rattle.chars.specs.Character.{characterAt}
 use Rattle.chars.specs.Stream.{Stream, next, stop, streamAt}
 use Rattle.chars.specs.declared.Character.{Character}
 use Rattle.chars.specs.declared.Character.the-variants.{Clean, Refused, End}
 use Rattle.chars.proofs.Cases.{either}
-use Rattle.chars.proofs.Characters.{Is, character-is, outside}
-use Rattle.chars.proofs.Streams.{at-end, at-character, at-none, plain, inside}
+use Rattle.chars.proofs.Characters.{character-is, outside}
+use Rattle.chars.proofs.Streams.{at-end, at-character, at-none, plain}
 use Rattle.tokens.specs.Sorts.{visible, white, atomic, exclusive, inclusive, legal}
-use Rattle.tokens.specs.Tokens.{Tokens, between, comment, step, begins, follows, tokens}
 use Rattle.tokens.specs.Runs.{classOf, run, pastBlanks, pastComment, pastAll}
 use Rattle.tokens.proofs.Passing.{class-at, carried, most, ends}
-use Rattle.tokens.proofs.Classes.{alone, at-most, has-class, is-white, not-white, not-line, Foreign, foreign}
+use Rattle.tokens.proofs.Classes.{alone, at-most, has-class, is-white, not-white, foreign}
 
 -- behind whitespace and comments there is the same whether blanks are passed over first or not
 pub blanks-first : (s : Stream) → pastAll false s ≡ pastAll false (pastBlanks s)
@@ -93,15 +91,6 @@ module _ (draft : List ℕ) where
   blanks-run at h =
       carried 8 9 draft (λ i. pastBlanks (streamAt draft i)) (length draft - at) at (omega arith)
       (λ i g l a b. rw (next-at i (omega arith) (omega arith), is-white (getD draft i 0) a b))
-
-  -- a run of a comment's bytes
-  pub comment-run :
-      (at : ℕ) → at ≤ length draft
-      → pastComment (streamAt draft at) ≡ pastComment (streamAt draft (at + run 1 8 (length draft - at) (drop at draft)))
-  unfolding pastComment
-  comment-run at h =
-      carried 1 8 draft (λ i. pastComment (streamAt draft i)) (length draft - at) at (omega arith)
-      (λ i g l a b. rw (next-at i (omega arith) (omega arith), not-line (getD draft i 0) a b))
 
   -- a place with a character, or without one: what holds of both
   pub by-character :
@@ -184,10 +173,6 @@ module _ (draft : List ℕ) where
   pub blanked :
       (at r : ℕ) → at ≤ length draft → r ≡ at + run 8 9 (length draft - at) (drop at draft) → Ran pastBlanks 8 9 at r
   blanked at r h e = ran pastBlanks 8 9 at r h e (blanks-run at h)
-
-  pub remarked :
-      (at r : ℕ) → at ≤ length draft → r ≡ at + run 1 8 (length draft - at) (drop at draft) → Ran pastComment 1 8 at r
-  remarked at r h e = ran pastComment 1 8 at r h e (comment-run at h)
 
   -- one run after another, where `F` passes over what stands between them
   pub joined :

@@ -1,13 +1,11 @@
 -- A fact about every byte: antt computes one test over all of them, and these laws turn the test into the fact at each.
 use mathlib.Core.Path.{_≡_, _∙_, ap}
 use mathlib.Core.Bool.{Bool, true, false, not, _&&_, _||_, false≢true}
-use Prim.Native.Nat.{ℕ, zero, suc, _<_, _≤_}
+use Prim.Native.Nat.{ℕ, zero, suc, _<_}
 use native.Mathlib.Omega.{arith}
-use lib.Dec.{leb, ltb, eqb}
-use borrow.Author.Tests.{eqb-true, eqb-false, le-leb, lt-ltb}
-use Rattle.chars.specs.Choice.{within}
+use lib.Dec.{eqb}
+use borrow.Author.Tests.{eqb-true, eqb-false}
 use Rattle.chars.proofs.Cases.{both, either}
-use Rattle.chars.proofs.Extent.{within-true}
 
 -- the test passes at every number below `n`
 abbrev pub below : (ℕ → Bool) → ℕ → Bool
@@ -39,11 +37,3 @@ implied s t n c k h p = so (s k) (t k) (holds (λ j. if-then (s j) (t j)) n c k 
 pub constant :
     (f : ℕ → ℕ) (v : ℕ) (s : ℕ → Bool) → below (λ k. if-then (s k) (eqb v (f k))) 256 ≡ true → (b : ℕ) → b < 256 → s b ≡ true → v ≡ f b
 constant f v s t b h p = eqb-true v (f b) (implied s (λ k. eqb v (f k)) 256 t b h p)
-
--- a function is from `low` to `high` at every byte from `first` up to `past`
-pub ranged :
-    (f : ℕ → ℕ) (first past low high : ℕ) → below (λ k. if-then (leb first k && ltb k past) (within low high (f k))) 256 ≡ true
-    → (b : ℕ) → b < 256 → first ≤ b → b < past → (low ≤ f b) × (f b ≤ high)
-ranged f first past low high t b h g l =
-    within-true low high (f b)
-    (implied (λ k. leb first k && ltb k past) (λ k. within low high (f k)) 256 t b h (rw (le-leb first b g, lt-ltb b past l)))

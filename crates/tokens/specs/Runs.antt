@@ -1,5 +1,5 @@
 -- What the loops of the code answer. Nothing here says more of the format than Tokens does: laws in proofs/ tie each of these to it.
-use Prim.Native.Nat.{ℕ, zero, suc, _+_, _-_, _/_, _%_, _≤_}
+use Prim.Native.Nat.{ℕ, zero, suc, _+_, _/_, _%_, _≤_}
 use mathlib.Core.Path.{_≡_}
 use mathlib.Core.Bool.{Bool, true, false, not, _&&_, _||_}
 use mathlib.Core.List.{List, [], _∷_}
@@ -7,11 +7,10 @@ use lib.Dec.{leb, eqb}
 use lib.ListN.{take, drop}
 use Rattle.chars.specs.Choice.{if_then_else_, within}
 use Rattle.chars.specs.Character.{told}
-use Rattle.chars.specs.Limits.{limits}
 use Rattle.chars.specs.Rfc3629.{utf8-char}
-use Rattle.chars.specs.Stream.{Stream, next, stop, streamAt}
+use Rattle.chars.specs.Stream.{Stream, next, stop}
 use Rattle.chars.specs.declared.Character.{Character}
-use Rattle.tokens.specs.Tokens.{Sort, quoted, curly, Opened, string, tokens}
+use Rattle.tokens.specs.Tokens.{Sort, quoted, curly, Opened}
 use Rattle.tokens.specs.declared.Token.{Token}
 use Rattle.tokens.specs.declared.Token.the-variants.{Refused}
 use Rattle.tokens.specs.Sorts.{visible, white, atomic, exclusive, inclusive, legal}
@@ -85,12 +84,3 @@ pub record Wide (draft : List ℕ) (at end r : ℕ) : Type 0 where
   pub several : 2 ≤ r
   pub there : at + r ≤ end
   pub grammar : utf8-char (take r (drop at draft)) ≡ true
-
--- Plain string data from `at` to `r`, which is no further than `end`: whatever the string, its tokens are those from `r` on, behind as many
--- more clean bytes, if the limit lets it go as far as `end`.
-pub record Data (draft : List ℕ) (odd : Bool) (at end r : ℕ) : Type 0 where
-  pub on : at ≤ r
-  pub there : r ≤ end
-  pub same :
-      (o : Opened) (n level : ℕ) → n + (end - at) ≤ limits .string
-      → tokens limits (string o n level odd) (streamAt draft at) ≡ tokens limits (string o (n + (r - at)) level odd) (streamAt draft r)

@@ -1,11 +1,8 @@
-// The class of a byte, and runs of bytes of one range of classes: what the loops over blanks, comments, words and string data share.
+// The class of a byte, and runs of bytes of one range of classes: what the loops over blanks and words share.
 ghost use mathlib.Core.Path.{_≡_};
-ghost use mathlib.Core.Bool.{true, not};
-ghost use Rattle.chars.specs.Choice.{within};
-ghost use Prim.Native.Nat.{_+_, _-_, _≤_, _<_, min};
-ghost use lib.ListN.{length, take, drop};
-ghost use Rattle.tokens.specs.Runs.{classOf, run as runOf, bytesOf};
-use crate::number::eight;
+ghost use Prim.Native.Nat.{_+_, _-_, _<_, _≤_, min};
+ghost use lib.ListN.{length, getD, drop};
+ghost use Rattle.tokens.specs.Runs.{classOf, run as runOf};
 
 // The class of any byte (specs/Runs.antt, classOf); `_` is nul, CR and all that is not US-ASCII. No arm lists two neighbours, since only
 // then the compiler makes one table of all the arms, and reads it where it lies.
@@ -138,7 +135,7 @@ fn rare(b: u8) -> u8
 
 // The class of a byte. What a draft is mostly made of is told by a few comparisons; each way out calls `rare` by itself, so that it stays a
 // call and the comparisons go into the loops.
-pub fn class(b: u8) -> u8
+fn class(b: u8) -> u8
     ensures { λ r. ⌜ r ≡ classOf b ⌝ }
 {
     if 0x5D < b {
@@ -165,6 +162,14 @@ pub fn class(b: u8) -> u8
     rare(b)
 }
 
+// The class of a draft's byte.
+pub fn class_at(draft: &[u8], i: usize) -> u8
+    requires { ⌜ i < length (now draft) ⌝ }
+    ensures { λ r. ⌜ r ≡ classOf (getD (now (draft .entry)) i 0) ⌝ }
+{
+    class(draft[i])
+}
+
 // From `at` on, where bytes whose class is from `low` to `high` end, at `end` at the latest.
 pub fn run(draft: &[u8], at: usize, end: usize, low: u8, high: u8) -> usize
     requires { ⌜ (at ≤ end) × (end ≤ length (now draft)) ⌝ }
@@ -172,149 +177,11 @@ pub fn run(draft: &[u8], at: usize, end: usize, low: u8, high: u8) -> usize
 {
     let mut i = at;
     while i < end {
-        let k = class(draft[i]);
+        let k = class_at(draft, i);
         if k < low {
             return i;
         }
         if high < k {
-            return i;
-        }
-        i += 1;
-    }
-    i
-}
-
-// Whether a byte lies from `first` up to `past`, which is left out.
-fn between(b: u8, first: u8, past: u8) -> bool
-    ensures { λ r. ⌜ (r ≡ true → (first ≤ b) × (b < past)) ⌝ }
-{
-    if b < first {
-        return false;
-    }
-    b < past
-}
-
-// SP and the visible characters, which comments are full of: classes 1 to 8.
-fn is_remark(b: u8) -> bool
-    ensures { λ r. ⌜ (r ≡ true → (1 ≤ classOf b) × (classOf b ≤ 8)) ⌝ }
-{
-    between(b, 0x20, 0x7F)
-}
-
-// What string data is full of: SP and visible characters of classes 4 to 9, in the order of how common they are.
-fn is_data(b: u8) -> bool
-    ensures { λ r. ⌜ (r ≡ true → (4 ≤ classOf b) × (classOf b ≤ 9)) ⌝ }
-{
-    if between(b, 0x5D, 0x7B) {
-        return true;
-    }
-    if between(b, 0x23, 0x5C) {
-        return true;
-    }
-    b == 0x20
-}
-
-// Whether a byte is seen without its class to be of a class from `low` to `high`.
-fn quick(b: u8, low: u8, high: u8) -> bool
-    ensures { λ r. ⌜ (r ≡ true → (low ≤ classOf b) × (classOf b ≤ high)) ⌝ }
-{
-    if low <= 1 {
-        if 8 <= high {
-            return is_remark(b);
-        }
-    }
-    if 4 < low {
-        return false;
-    }
-    if high < 9 {
-        return false;
-    }
-    is_data(b)
-}
-
-// Whether a byte's class is none from `low` to `high`.
-fn outside(b: u8, low: u8, high: u8) -> bool
-    ensures { λ r. ⌜ r ≡ not (within low high (classOf b)) ⌝ }
-{
-    if quick(b, low, high) {
-        return false;
-    }
-    let k = class(b);
-    if k < low {
-        return true;
-    }
-    high < k
-}
-
-// Whether each of the eight bytes of a number is from 20 to 7F hex: classes 1 to 8. None has its highest bit, so that no sum with 60 is
-// carried over to the next byte, and the sum has it from 20 on.
-fn all_remark(w: u64) -> bool
-    ensures { λ r. ⌜ (r ≡ true → runOf 1 8 8 (bytesOf 8 w) ≡ 8) ⌝ }
-{
-    if w & 0x8080808080808080 != 0 {
-        return false;
-    }
-    (w + 0x6060606060606060) & 0x8080808080808080 == 0x8080808080808080
-}
-
-// Whether each of the eight bytes of a number is from 20 to 7A hex and neither a quote nor a backslash: classes 4 to 9. Of the numbers `a`
-// to `d` each has the highest bit of a byte where one test is passed: from 20 on, no quote, no backslash, up to 7A.
-fn all_data(w: u64) -> bool
-    ensures { λ r. ⌜ (r ≡ true → runOf 4 9 8 (bytesOf 8 w) ≡ 8) ⌝ }
-{
-    if w & 0x8080808080808080 != 0 {
-        return false;
-    }
-    let a = w + 0x6060606060606060;
-    let b = (w ^ 0x2222222222222222) + 0x7F7F7F7F7F7F7F7F;
-    let c = (w ^ 0x5C5C5C5C5C5C5C5C) + 0x7F7F7F7F7F7F7F7F;
-    let d = 0xFAFAFAFAFAFAFAFA - w;
-    a & b & c & d & 0x8080808080808080 == 0x8080808080808080
-}
-
-// Whether the eight bytes from `at` on are seen at once to be of classes from `low` to `high`.
-fn block(draft: &[u8], at: usize, low: u8, high: u8) -> bool
-    requires { ⌜ at + 8 ≤ length (now draft) ⌝ }
-    ensures { λ r. ⌜ (r ≡ true → runOf low high 8 (drop at (now (draft .entry))) ≡ 8) ⌝ }
-{
-    if low <= 1 {
-        if 8 <= high {
-            return all_remark(eight(draft, at));
-        }
-    }
-    if 4 < low {
-        return false;
-    }
-    if high < 9 {
-        return false;
-    }
-    all_data(eight(draft, at))
-}
-
-// A place from which on a run ends where it ends from `at` on: behind blocks of eight bytes that are seen at once to be part of it.
-fn past_blocks(draft: &[u8], at: usize, end: usize, low: u8, high: u8) -> usize
-    requires { ⌜ (at ≤ end) × (end ≤ length (now draft)) ⌝ }
-    ensures { λ r. ⌜ (at ≤ r) × (r ≤ end) × (r + runOf low high (end - r) (drop r (now (draft .entry))) ≡ at + runOf low high (end - at)
-        (drop at (now (draft .entry)))) ⌝ }
-{
-    let mut i = at;
-    while 8 <= end - i {
-        if !block(draft, i, low, high) {
-            return i;
-        }
-        i += 8;
-    }
-    i
-}
-
-// The same as `run`, for runs that are long: most bytes are passed over without a look at their class, eight at once.
-pub fn long_run(draft: &[u8], at: usize, end: usize, low: u8, high: u8) -> usize
-    requires { ⌜ (at ≤ end) × (end ≤ length (now draft)) ⌝ }
-    ensures { λ r. ⌜ r ≡ at + runOf low high (end - at) (drop at (now (draft .entry))) ⌝ }
-{
-    let mut i = past_blocks(draft, at, end, low, high);
-    while i < end {
-        if outside(draft[i], low, high) {
             return i;
         }
         i += 1;

@@ -2,20 +2,20 @@
 ghost use mathlib.Core.Path.{_≡_};
 ghost use mathlib.Core.Bool.{false};
 ghost use Prim.Native.Nat.{_+_, _-_, _<_, _≤_};
-ghost use lib.ListN.{length, getD, drop};
+ghost use lib.ListN.{length, getD};
 ghost use Rattle.chars.specs.Limits.{limits};
 ghost use Rattle.chars.specs.Stream.{streamAt};
-ghost use Rattle.tokens.specs.Tokens.{between, bar as barAt, word as wordAt, tokens, first, tokenAt};
-ghost use Rattle.tokens.specs.Runs.{classOf, run as runOf, pastBlanks, pastComment, pastAll, refusalOf};
+ghost use Rattle.tokens.specs.Tokens.{between, bar as barAt, word as wordAt, string as stringOf, tokens, first, tokenAt};
+ghost use Rattle.tokens.specs.Tokens.{shown, closed as closedBy, opens, follows};
+ghost use Rattle.tokens.specs.Runs.{classOf, pastBlanks, pastComment, pastAll, openedAs, refusalOf};
 
 mod byte;
 pub mod copier;
 pub mod number;
-mod sequence;
 mod space;
 mod string_data;
 
-use byte::class;
+use byte::class_at;
 use byte::run;
 use byte::until;
 use chars::Character;
@@ -23,7 +23,9 @@ use chars::limits;
 use space::blanks;
 use space::comment;
 use space::skip;
-use string_data::opened;
+use string_data::closes;
+use string_data::level_after;
+use string_data::odd_after;
 
 // What the characters from a place of a draft on come to first. A place is a token's first byte.
 pub enum Token {
@@ -82,6 +84,79 @@ fn refusal(answer: Character, length: usize) -> Token
     }
 }
 
+// A string once it is closed.
+fn closed(
+    curly: bool,
+    place: usize,
+    after: usize,
+    prefix: usize,
+    from: usize,
+    length: usize,
+) -> Token
+    ensures { λ r. ⌜ r ≡ shown (closedBy (openedAs curly place prefix from) after length) ⌝ }
+{
+    if curly {
+        return Token::Curly {
+            place,
+            after,
+            prefix,
+            from,
+            length,
+        };
+    }
+    Token::Quoted {
+        place,
+        after,
+        prefix,
+        from,
+        length,
+    }
+}
+
+// A string whose data begins at `from`.
+fn string(draft: &[u8], curly: bool, place: usize, prefix: usize, from: usize) -> Token
+    requires { ⌜ from ≤ length (now draft) ⌝ }
+    ensures { λ r. ⌜ r ≡ first (tokens limits (stringOf (openedAs curly place prefix from) 0 1 false) (streamAt (now (draft .entry)) from))
+        ⌝ }
+{
+    let mut i = from;
+    let mut n: usize = 0;
+    let mut level: usize = 1;
+    let mut odd = false;
+    loop {
+        let answer = chars::character_at(draft, i);
+        let Character::Clean { number, after } = answer else {
+            return refusal(answer, draft.len());
+        };
+        if closes(curly, level, odd, number) {
+            return closed(curly, place, after, prefix, from, n);
+        }
+        let size = chars::encoded_length(number);
+        if limits::STRING - n < size {
+            return Token::Refused {
+                number: 9,
+                place: i,
+            };
+        }
+        level = level_after(curly, level, odd, number);
+        odd = odd_after(odd, number);
+        n += size;
+        i = after;
+    }
+}
+
+// A string that `open`, a quote or a curly, opens behind a prefix.
+fn opened(draft: &[u8], open: u8, place: usize, prefix: usize, from: usize) -> Token
+    requires { ⌜ from ≤ length (now draft) ⌝ }
+    ensures { λ r. ⌜ r ≡ first (follows (opens «open» place prefix from) (λ state. tokens limits state
+        (streamAt (now (draft .entry)) from))) ⌝ }
+{
+    if open == b'"' {
+        return string(draft, false, place, prefix, from);
+    }
+    string(draft, true, place, prefix, from)
+}
+
 // The end of a simple token or a prefix at a byte that is not US-ASCII, CR or nul: CR with LF ends a token, any other character is illegal.
 fn foreign_end(draft: &[u8], begun: usize, i: usize) -> Token
     requires { ⌜ (begun ≤ i) × (i < length (now draft)) × (classOf (getD (now draft) i 0) ≡ 0) ⌝ }
@@ -118,7 +193,7 @@ fn word(draft: &[u8], begun: usize) -> Token
         };
     }
     let b = draft[i];
-    let k = class(b);
+    let k = class_at(draft, i);
     if k == 0 {
         return foreign_end(draft, begun, i);
     }
@@ -151,11 +226,11 @@ fn word(draft: &[u8], begun: usize) -> Token
 }
 
 // A token that begins with a bar: with `;` right after it, it is the last token.
-fn bar(draft: &[u8], begun: usize) -> Token
-    requires { ⌜ begun < length (now draft) ⌝ }
-    ensures { λ r. ⌜ r ≡ first (tokens limits (barAt begun) (streamAt (now (draft .entry)) (begun + 1))) ⌝ }
+fn bar(draft: &[u8], at: usize) -> Token
+    requires { ⌜ at < length (now draft) ⌝ }
+    ensures { λ r. ⌜ r ≡ first (tokens limits (barAt at) (streamAt (now (draft .entry)) (at + 1))) ⌝ }
 {
-    let next = begun + 1;
+    let next = at + 1;
     if draft.len() <= next {
         return Token::Refused {
             number: 7,
@@ -164,11 +239,11 @@ fn bar(draft: &[u8], begun: usize) -> Token
     }
     if draft[next] == b';' {
         return Token::Last {
-            place: begun,
-            after: begun + 2,
+            place: at,
+            after: at + 2,
         };
     }
-    word(draft, begun)
+    word(draft, at)
 }
 
 // A character that is no US-ASCII, where no token has begun: it is illegal, if cleaning gives it at all.
@@ -197,7 +272,7 @@ fn token_from(draft: &[u8], i: usize) -> Token
     ensures { λ r. ⌜ r ≡ first (tokens limits between (streamAt (now (draft .entry)) i)) ⌝ }
 {
     let b = draft[i];
-    let k = class(b);
+    let k = class_at(draft, i);
     if k == 0 {
         return foreign_start(draft, i);
     }
@@ -267,48 +342,4 @@ pub fn comment_end(draft: &[u8], at: usize) -> usize
         return draft.len();
     }
     comment(draft, at)
-}
-
-// From `at` on, the place before `end` of the character that ends a word, of class 6 to 9; or 0, where plain characters reach `end` or
-// another character stands first.
-fn ends_at(draft: &[u8], at: usize, end: usize) -> usize
-    requires { ⌜ (at ≤ end) × (end ≤ length (now draft)) ⌝ }
-    ensures { λ r. ⌜ ((r ≡ 0 → ⊥) → (r ≡ at + runOf 3 4 (end - at) (drop at (now (draft .entry)))) × (r < end)
-        × (6 ≤ classOf (getD (now (draft .entry)) r 0))) ⌝ }
-{
-    let mut i = at;
-    while i < end {
-        let k = class(draft[i]);
-        if 5 < k {
-            return i;
-        }
-        if k < 3 {
-            return 0;
-        }
-        if k == 5 {
-            return 0;
-        }
-        i += 1;
-    }
-    0
-}
-
-// The byte after the simple token that begins at a place, one that US-ASCII ends and that is neither a single character of its own nor
-// begins with a bar; or 0, which says nothing of the token.
-pub fn word_end(draft: &[u8], at: usize) -> usize
-    ensures { λ r. ⌜ ((r ≡ 0 → ⊥) → (at < r) × (at < length (now (draft .entry)))
-        × (tokenAt limits (now (draft .entry)) at ≡ Token.Simple at r (r - at)) × (classOf (getD (now (draft .entry)) at 0) ≡ 4)) ⌝ }
-{
-    if draft.len() <= at {
-        return 0;
-    }
-    let b = draft[at];
-    if class(b) != 4 {
-        return 0;
-    }
-    if b == 0x7C {
-        return 0;
-    }
-    let end = until(draft.len(), at + 1, limits::TOKEN - 1);
-    ends_at(draft, at + 1, end)
 }

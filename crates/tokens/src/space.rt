@@ -5,7 +5,6 @@ ghost use Prim.Native.Nat.{_≤_};
 ghost use lib.ListN.{length};
 ghost use Rattle.chars.specs.Stream.{streamAt};
 ghost use Rattle.tokens.specs.Runs.{pastBlanks, pastComment, pastAll};
-use crate::byte::long_run;
 use crate::byte::run;
 use chars::Character;
 
@@ -34,20 +33,16 @@ pub fn comment(draft: &[u8], at: usize) -> usize
     ensures { λ r. ⌜ (streamAt (now (draft .entry)) r ≡ pastComment (streamAt (now (draft .entry)) at)) × (at ≤ r)
         × (r ≤ length (now (draft .entry))) ⌝ }
 {
-    let mut i = long_run(draft, at, draft.len(), 1, 8);
-    while i < draft.len() {
-        if draft[i] == 0x0A {
-            return i + 1;
-        }
+    let mut i = at;
+    loop {
         let Character::Clean { number, after } = chars::character_at(draft, i) else {
             return i;
         };
         if number == 0x0A {
             return after;
         }
-        i = long_run(draft, after, draft.len(), 1, 8);
+        i = after;
     }
-    i
 }
 
 // The first place from `at` on that is neither whitespace nor part of a comment.

@@ -20,7 +20,7 @@ add-next : tie.Need-add-next
 add-next c = search needs
 
 returns : tie.Need-returns
-returns c = let a = c .before .before .args in sym (at-length limits (a .draft .now) (a .begun + 1) (bar (a .begun)) (c .if1 .taken))
+returns c = let a = c .before .before .args in sym (at-length limits (a .draft .now) (a .at + 1) (bar (a .at)) (c .if1 .taken))
 
 shared-slice-read-if2 : tie.Need-shared-slice-read-if2
 shared-slice-read-if2 c = search needs
@@ -32,11 +32,11 @@ returns-2 : tie.Need-returns-2
 unfolding classOf visible white atomic exclusive inclusive legal
 returns-2 c =
     let a = c .before .before .before .before .args in
-    let i = a .begun + 1 in
+    let i = a .at + 1 in
     let own : 1 ≤ class-at (a .draft .now) i = rw (c .if2 .taken) (omega arith) in
-    let on : i + 1 ≡ a .begun + 2 = omega arith in
-    ap (Last (a .begun)) (sym on)
-    ∙ sym (last limits (a .draft .now) (a .begun) i (getD (a .draft .now) i 0) (i + 1) (alone-at (a .draft .now) i (omega arith) own)
+    let on : i + 1 ≡ a .at + 2 = omega arith in
+    ap (Last (a .at)) (sym on)
+    ∙ sym (last limits (a .draft .now) (a .at) i (getD (a .draft .now) i 0) (i + 1) (alone-at (a .draft .now) i (omega arith) own)
     (c .if2 .taken))
 
 word-requires : tie.Need-word-requires
@@ -45,8 +45,8 @@ word-requires c κs = search needs
 returns-3 : tie.Need-returns-3
 returns-3 c =
     let a = c .before .before .before .before .before .args in
-    let i = a .begun + 1 in
-    let none = no-last limits (a .draft .now) (a .begun) i
+    let i = a .at + 1 in
+    let none = no-last limits (a .draft .now) (a .at) i
     (λ number after e z. no-mark (a .draft .now) 0x3B i number after (omega arith) (λ l. omega arith) e (c .before .if2 .left) z) in
     c .word .ensures ∙ sym (ap first none)
 

@@ -17,8 +17,8 @@ use Rattle.tokens.proofs.token_from.Tie as tie
 shared-slice-read-b : tie.Need-shared-slice-read-b
 shared-slice-read-b c = search needs
 
-class-requires : tie.Need-class-requires
-class-requires c κs = search needs
+class-at-requires : tie.Need-class-at-requires
+class-at-requires c κs = search needs
 
 foreign-start-requires : tie.Need-foreign-start-requires
 foreign-start-requires c κs = search needs
@@ -38,7 +38,7 @@ returns-2 c =
     let a = c .before .before .before .before .before .before .args in
     let i = a .i in
     let b = getD (a .draft .now) i 0 in
-    let k = c .before .before .before .class .ensures in
+    let k = c .before .before .before .class-at .ensures in
     let own : 1 ≤ classOf b = omega arith in
     let is = alone-at (a .draft .now) i (p .0) own in
     let no = neither limits (a .draft .now) i (p .1) b (i + 1) is in
@@ -51,7 +51,7 @@ returns-3 c =
     let a = c .before .before .before .before .before .before .args in
     let i = a .i in
     let b = getD (a .draft .now) i 0 in
-    let k = c .before .before .before .class .ensures in
+    let k = c .before .before .before .class-at .ensures in
     let own : 1 ≤ classOf b = omega arith in
     let is = alone-at (a .draft .now) i (p .0) own in
     let no = neither limits (a .draft .now) i (p .1) b (i + 1) is in
@@ -66,7 +66,7 @@ returns-4 c =
     let a = c .before .before .before .before .before .before .before .before .args in
     let i = a .i in
     let b = getD (a .draft .now) i 0 in
-    let k = c .before .before .before .before .before .class .ensures in
+    let k = c .before .before .before .before .before .class-at .ensures in
     let four : classOf b ≡ 4 = ap classOf (c .before .if4 .taken) ∙ refl in
     let own : 1 ≤ classOf b = omega arith in
     let is = alone-at (a .draft .now) i (c .before .before .before .before .before .before .before .before .pre .0) own in
@@ -83,7 +83,7 @@ returns-5 c =
     let a = c .before .before .before .before .before .before .before .before .before .args in
     let i = a .i in
     let b = getD (a .draft .now) i 0 in
-    let k = c .before .before .before .before .before .before .class .ensures in
+    let k = c .before .before .before .before .before .before .class-at .ensures in
     let own : 1 ≤ classOf b = omega arith in
     let is = alone-at (a .draft .now) i (c .before .before .before .before .before .before .before .before .before .pre .0) own in
     let no = neither limits (a .draft .now) i (c .before .before .before .before .before .before .before .before .before .pre .1) b
@@ -100,7 +100,7 @@ returns-6 c =
     let a = c .before .before .before .before .before .before .before .before .before .before .args in
     let i = a .i in
     let b = getD (a .draft .now) i 0 in
-    let k = c .before .before .before .before .before .before .before .class .ensures in
+    let k = c .before .before .before .before .before .before .before .class-at .ensures in
     let own : 1 ≤ classOf b = omega arith in
     let is = alone-at (a .draft .now) i (c .before .before .before .before .before .before .before .before .before .before .pre .0) own in
     let no = neither limits (a .draft .now) i (c .before .before .before .before .before .before .before .before .before .before .pre .1) b
@@ -118,7 +118,7 @@ returns-7 c =
     let a = c .before .before .before .before .before .before .before .before .before .args in
     let i = a .i in
     let b = getD (a .draft .now) i 0 in
-    let k = c .before .before .before .before .before .before .class .ensures in
+    let k = c .before .before .before .before .before .before .class-at .ensures in
     let own : 1 ≤ classOf b = omega arith in
     let is = alone-at (a .draft .now) i (p .0) own in
     let no = neither limits (a .draft .now) i (p .1) b (i + 1) is in
@@ -130,7 +130,7 @@ token-from-spec =
     tie.close
     (tie.spec
     shared-slice-read-b
-    class-requires
+    class-at-requires
     foreign-start-requires
     returns
     add-opened

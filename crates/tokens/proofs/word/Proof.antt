@@ -50,8 +50,8 @@ returns c =
 shared-slice-read-b : tie.Need-shared-slice-read-b
 shared-slice-read-b c = search needs
 
-class-requires : tie.Need-class-requires
-class-requires c κs = search needs
+class-at-requires : tie.Need-class-at-requires
+class-at-requires c κs = search needs
 
 foreign-end-requires : tie.Need-foreign-end-requires
 foreign-end-requires c κs =
@@ -82,7 +82,7 @@ returns-3 c =
     let ran = behind (c .before .before .before .before .before .before) in
     let back = sym (ap first (ran .same)) in
     let b = getD (a .draft .now) i 0 in
-    let k = c .before .before .before .class .ensures in
+    let k = c .before .before .before .class-at .ensures in
     let own : 1 ≤ classOf b = omega arith in
     let is = alone-at (a .draft .now) i (omega arith) own in
     let o = opening b (omega arith) in
@@ -96,7 +96,7 @@ returns-4 c =
     let ran = behind (c .before .before .before .before .before .before) in
     let back = sym (ap first (ran .same)) in
     let b = getD (a .draft .now) i 0 in
-    let k = c .before .before .before .class .ensures in
+    let k = c .before .before .before .class-at .ensures in
     let own : 1 ≤ classOf b = omega arith in
     let is = alone-at (a .draft .now) i (omega arith) own in
     sym (illegal limits (a .draft .now) (a .begun) i b (i + 1) (i - a .begun) is (illegal-byte b (omega arith) .no-legal)) ∙ back
@@ -108,7 +108,7 @@ returns-5 c =
     let ran = behind (c .before .before .before .before .before .before .before) in
     let back = sym (ap first (ran .same)) in
     let b = getD (a .draft .now) i 0 in
-    let k = c .before .before .before .before .class .ensures in
+    let k = c .before .before .before .before .class-at .ensures in
     let own : 1 ≤ classOf b = omega arith in
     let is = alone-at (a .draft .now) i (omega arith) own in
     let p = plain b (omega arith) (omega arith) in
@@ -122,7 +122,7 @@ returns-6 c =
     let ran = behind (c .before .before .before .before .before .before .before .before) in
     let back = sym (ap first (ran .same)) in
     let b = getD (a .draft .now) i 0 in
-    let k = c .before .before .before .before .before .class .ensures in
+    let k = c .before .before .before .before .before .class-at .ensures in
     let own : 1 ≤ classOf b = omega arith in
     let is = alone-at (a .draft .now) i (omega arith) own in
     let p = plain b (omega arith) (omega arith) in
@@ -139,7 +139,7 @@ returns-7 c =
     let ran = behind (c .before .before .before .before .before .before .before .before) in
     let back = sym (ap first (ran .same)) in
     let b = getD (a .draft .now) i 0 in
-    let k = c .before .before .before .before .before .class .ensures in
+    let k = c .before .before .before .before .before .class-at .ensures in
     let own : 1 ≤ classOf b = omega arith in
     let is = alone-at (a .draft .now) i (omega arith) own in
     let x = either (eqb (classOf b) 1) (λ t. ending-curly b (eqb-true (classOf b) 1 t))
@@ -157,7 +157,7 @@ word-spec =
     run-requires
     returns
     shared-slice-read-b
-    class-requires
+    class-at-requires
     foreign-end-requires
     returns-2
     sub-opened

@@ -22,24 +22,21 @@ abbrev μ-loop : tie.MeasureT-loop
 loop-holds : tie.Need-loop-holds Inv-loop μ-loop
 loop-holds c = (refl, c .before .pre .0, c .before .pre .1)
 
-shared-slice-read-class : tie.Need-shared-slice-read-class Inv-loop μ-loop
-shared-slice-read-class c = omega arith
-
-class-requires : tie.Need-class-requires Inv-loop μ-loop
-class-requires c κs = search needs
+class-at-requires : tie.Need-class-at-requires Inv-loop μ-loop
+class-at-requires c κs = omega arith
 
 returns : tie.Need-returns Inv-loop μ-loop
 returns c =
-    let a = c .before .before .before .before .before .before .args in
-    let l = c .before .before .before .before .loop in
-    let k = c .before .class .ensures in
+    let a = c .before .before .before .before .before .args in
+    let l = c .before .before .before .loop in
+    let k = c .before .class-at .ensures in
     halted-below (a .low) (a .high) (a .draft .now) (l .i) (a .end) (omega arith) (omega arith) ∙ l .inv .0
 
 returns-2 : tie.Need-returns-2 Inv-loop μ-loop
 returns-2 c =
-    let a = c .before .before .before .before .before .before .before .args in
-    let l = c .before .before .before .before .before .loop in
-    let k = c .before .before .class .ensures in
+    let a = c .before .before .before .before .before .before .args in
+    let l = c .before .before .before .before .loop in
+    let k = c .before .before .class-at .ensures in
     halted-above (a .low) (a .high) (a .draft .now) (l .i) (a .end) (omega arith) (omega arith) (omega arith) ∙ l .inv .0
 
 add-i : tie.Need-add-i Inv-loop μ-loop
@@ -50,9 +47,9 @@ loop-less c = omega arith
 
 loop-again : tie.Need-loop-again Inv-loop μ-loop
 loop-again c =
-    let a = c .before .before .before .before .before .before .before .args in
-    let l = c .before .before .before .before .before .loop in
-    let k = c .before .before .class .ensures in (
+    let a = c .before .before .before .before .before .before .args in
+    let l = c .before .before .before .before .loop in
+    let k = c .before .before .class-at .ensures in (
       onward (a .low) (a .high) (a .draft .now) (l .i) (a .end) (omega arith) (omega arith) (omega arith) (omega arith) ∙ l .inv .0,
       omega arith,
       l .inv .2,
@@ -71,8 +68,7 @@ run-spec =
     Inv-loop
     μ-loop
     loop-holds
-    shared-slice-read-class
-    class-requires
+    class-at-requires
     returns
     returns-2
     add-i

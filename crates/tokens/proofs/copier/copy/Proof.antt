@@ -140,7 +140,8 @@ encode-requires c κs =
     let h = c .before .before .before .before .before .before .before .before .before in
     let g = c .before .before .before .number .given in
     let is = sym (c .before .before .before .before .before .next .ensures) ∙ g .1 in
-    scalar (h .before .before .before .before .before .before .before .args .draft .now) (h .before .before .before .loop .i + h .kept .result)
+    scalar (h .before .before .before .before .before .before .before .args .draft .now) (h .before .before .before .loop .i + h .kept
+    .result)
     (g .0 .0) (g .0 .1 .0) is
 
 put-requires : tie.Need-put-requires Inv-loop μ-loop

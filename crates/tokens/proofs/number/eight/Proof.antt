@@ -2,7 +2,7 @@
 -- nothing.
 use native.Mathlib.Omega.{arith}
 use borrow.Author.Needs.{needs}
-use Rattle.tokens.proofs.Eight.{next-bytes}
+use Rattle.tokens.proofs.Bytes.{next-bytes}
 use Rattle.tokens.proofs.number.eight.Statement.{statement}
 use Rattle.tokens.proofs.number.eight.Tie as tie
 

@@ -2,7 +2,7 @@
 use Prim.Native.Nat.{_+_}
 use native.Mathlib.Omega.{arith}
 use borrow.Author.Needs.{needs}
-use Rattle.tokens.proofs.Eight.{one-byte, next-bytes}
+use Rattle.tokens.proofs.Bytes.{one-byte, next-bytes}
 use Rattle.tokens.proofs.number.two.Statement.{statement}
 use Rattle.tokens.proofs.number.two.Tie as tie
 

@@ -1,8 +1,8 @@
--- `tokens::string_data::closed` meets its contract: each answer is the definition at the sort that the test leaves. Assumes nothing.
+-- `tokens::closed` meets its contract: each answer is the definition at the sort that the test leaves. Assumes nothing.
 use Rattle.tokens.specs.Tokens.{shown, closed}
 use Rattle.tokens.specs.Runs.{sortOf, openedAs}
-use Rattle.tokens.proofs.string_data.closed.Statement.{statement}
-use Rattle.tokens.proofs.string_data.closed.Tie as tie
+use Rattle.tokens.proofs.closed.Statement.{statement}
+use Rattle.tokens.proofs.closed.Tie as tie
 
 returns : tie.Need-returns
 unfolding shown closed openedAs sortOf

@@ -1,11 +1,11 @@
--- `tokens::string_data::opened` meets its contract: the quote opens a quoted string, and the curly a curly one. Assumes nothing.
+-- `tokens::opened` meets its contract: the quote opens a quoted string, and the curly a curly one. Assumes nothing.
 use mathlib.Core.Path.{_≡_, sym, _∙_}
 use borrow.Author.Tests.{eq-eqb, ne-eqb}
 use Rattle.tokens.specs.Tokens.{opens, follows}
 use Rattle.tokens.specs.Runs.{openedAs, sortOf}
 use borrow.Author.Needs.{needs}
-use Rattle.tokens.proofs.string_data.opened.Statement.{statement}
-use Rattle.tokens.proofs.string_data.opened.Tie as tie
+use Rattle.tokens.proofs.opened.Statement.{statement}
+use Rattle.tokens.proofs.opened.Tie as tie
 
 string-requires : tie.Need-string-requires
 string-requires c κs = search needs
