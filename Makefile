@@ -1,5 +1,6 @@
 # make show    lists the drafts in examples/, or with DRAFT=FILE that draft
 # make test    all tests; the last line is 'N passed, 0 failed'
+# make quick   the same, but proves only what changed and tries no must-fail edit
 # make vectors holds the definitions against tests/vectors
 # make trial   holds the library against the peer in tests/peer; TRIAL has words for it, as --short or --seed N
 # make trial-selftest shows that the trial can fail
@@ -14,13 +15,16 @@ DRAFT = $(wildcard examples/*.draft)
 PREFIX = /usr/local
 installed = $(DESTDIR)$(abspath $(PREFIX))
 
-.PHONY: show test vectors trial trial-selftest bench install setup
+.PHONY: show test quick vectors trial trial-selftest bench install setup
 
 show: setup
 	@tools/list $(DRAFT)
 
 test: setup
 	@tests/run
+
+quick: setup
+	@tests/run --quick
 
 vectors: setup
 	@tools/vectors $(VECTORS)
