@@ -19,11 +19,18 @@ pub enum Copied {
     TooSmall,
 }
 
-// A re-encoded character at a place of a part.
+// A re-encoded character at a place of a part. Of four bytes it is written at once, as those of surrogate pairs are.
 fn put(out: &mut [u8], at: usize, bytes: [u8; 4], n: usize)
     requires { ⌜ (n ≤ 4) × (at + n ≤ length (now out)) ⌝ }
     ensures { λ r. ⌜ now (out .exit) ≡ paste (now (out .entry)) at bytes n ⌝ }
 {
+    if n == 4 {
+        out[at] = bytes[0];
+        out[at + 1] = bytes[1];
+        out[at + 2] = bytes[2];
+        out[at + 3] = bytes[3];
+        return;
+    }
     let mut j = 0;
     while j < n {
         out[at + j] = bytes[j];
