@@ -1,4 +1,5 @@
--- A `match` on a byte, by what antt computes at every byte: an arm lists bytes, and in `_` no arm lists the byte. CR before LF is one LF.
+-- A `match` on a byte, by what antt computes at every byte: an arm lists bytes, and in `_` no arm lists the byte. A tree of comparisons
+-- tells a range, but for some bytes of it. CR before LF is one LF.
 use mathlib.Core.Path.{_≡_, refl, sym}
 use mathlib.Core.Bool.{Bool, true, false, not, _&&_}
 use mathlib.Core.List.{List, [], _∷_}
@@ -10,12 +11,13 @@ use lib.ListN.{length, getD, drop, drop-of-length-le}
 use lib.Seq.{drop-cons}
 use mir.Val.{hasKey}
 use types.Run.{OneOf, hit, miss}
-use borrow.Author.Tests.{not-true, ne-eqb}
+use borrow.Author.Tests.{not-true, ne-eqb, le-leb}
+use Rattle.chars.specs.Choice.{within, among}
 use Rattle.chars.specs.Character.{character, characterAt, carriage}
 use Rattle.chars.specs.declared.Character.the-variants.{Clean}
 use Rattle.chars.proofs.Characters.{refused}
 use Rattle.chars.proofs.Cases.{either}
-use Rattle.tokens.proofs.Table.{below, if-then, implied}
+use Rattle.tokens.proofs.Table.{below, if-then, implied, constant}
 
 -- a byte that an arm lists, and one that it does not
 pub listed : (keys : List ℕ) (b : ℕ) → OneOf keys b → hasKey keys b ≡ true
@@ -45,6 +47,24 @@ every f s t b h p = sym (implied s f 256 t b h p)
 pub never :
     (f s : ℕ → Bool) → below (λ k. if-then (s k) (not (f k))) 256 ≡ true → (b : ℕ) → b < 256 → s b ≡ true → false ≡ f b
 never f s t b h p = sym (not-true (f b) (implied s (λ k. not (f k)) 256 t b h p))
+
+-- none of some bytes
+abbrev pub None : List ℕ → (b : ℕ) → Type 0
+None [] b = Unit {0}
+None (m ∷ ms) b = (b ≡ m → ⊥) × None ms b
+
+not-among : (ms : List ℕ) (b : ℕ) → None ms b → not (among b ms) ≡ true
+not-among [] b none = refl
+not-among (m ∷ ms) b none = rw (ne-eqb b m (none .0)) (not-among ms b (none .1))
+
+-- every byte of a range but some has one value
+pub alike :
+    (f : ℕ → ℕ) (v low high : ℕ) (but : List ℕ)
+    → below (λ k. if-then (within low high k && not (among k but)) (eqb v (f k))) 256 ≡ true
+    → (b : ℕ) → b < 256 → low ≤ b → b ≤ high → None but b → v ≡ f b
+alike f v low high but t b h g l none =
+    constant f v (λ k. within low high k && not (among k but)) t b h
+    (rw (le-leb low b g, le-leb b high l) (not-among but b none))
 
 -- CR before LF
 pub line-at :

@@ -129,11 +129,11 @@ module _ (w : ℕ) (h : w < 2 ^ 64) where
   pub raised : (k : ℕ) → k ≤ 0x80 → Made w (λ b. bitAnd b 0x7F + k) (bitAnd w 0x7F7F7F7F7F7F7F7F + k * 0x0101010101010101)
   raised k l = made-sum seven (repeated w k (omega arith)) (λ b i. omega (arith, and-le-r b 0x7F))
 
-  -- the highest bit for what is not the byte `k`
-  pub other :
-      (k : ℕ) → k < 0x80
-      → Made w (λ b. bitXor (bitAnd b 0x7F) k + 0x7F) (bitXor (bitAnd w 0x7F7F7F7F7F7F7F7F) (k * 0x0101010101010101) + 0x7F7F7F7F7F7F7F7F)
-  unfolding bytesOf
-  other k l =
-      made-sum (made-xor seven (repeated w k (omega arith))) (always w 0x7F (omega arith))
+  -- the same with some bits turned
+  pub turned :
+      (k m : ℕ) → k < 0x80 → m ≤ 0x80
+      → Made w (λ b. bitXor (bitAnd b 0x7F) k + m)
+      (bitXor (bitAnd w 0x7F7F7F7F7F7F7F7F) (k * 0x0101010101010101) + m * 0x0101010101010101)
+  turned k m l n =
+      made-sum (made-xor seven (repeated w k (omega arith))) (repeated w m (omega arith))
       (λ b i. omega (arith, xor-lt 7 (bitAnd b 0x7F) k (omega (arith, and-le-r b 0x7F)) l))

@@ -15,7 +15,7 @@ use Rattle.chars.specs.Limits.{limits}
 use Rattle.chars.specs.Character.{characterAt, encoded}
 use Rattle.chars.specs.Stream.{streamAt}
 use Rattle.chars.specs.declared.Character.the-variants.{Clean}
-use Rattle.chars.proofs.Cases.{both}
+use Rattle.chars.proofs.Cases.{both, either}
 use Rattle.chars.proofs.Extent.{encoded-one, within-true}
 use Rattle.chars.proofs.Streams.{at-end, plain as plain-at}
 use Rattle.tokens.specs.Tokens.{string, up, down, nested, inside, step, follows, tokens, first}
@@ -114,25 +114,26 @@ even-at draft false i number after e u d s =
     (no-mark draft 0x5C i number after (omega arith) (λ l. omega arith) e s)
 
 -- a byte that string data is mostly made of
+plain-curly : (low high b : ℕ) → 0x20 ≤ low → high < 0x7B → (b ≡ 0x5C → b < low) → within low high b ≡ true → Single b × Even true b
+plain-curly low high b g l s t =
+    let w = within-true low high b t in (
+      record { above = omega arith; below = omega arith; no-return = λ e. omega arith },
+      even true b (λ e. omega arith) (λ e. omega arith) (λ e. omega (arith, s e)),
+    )
+
 plain-data : (curly : Bool) (b : ℕ) → plain curly b ≡ true → Single b × Even curly b
 unfolding plain
 plain-data true b t =
-    let p = both (within 1 0x7F b) _ t in
-    let q = both (not (eqb b 0x0D)) _ (p .1) in
-    let s = both (not (eqb b 0x5C)) _ (q .1) in
-    let m = both (not (eqb b 0x7B)) (not (eqb b 0x7D)) (s .1) in
-    let w = within-true 1 0x7F b (p .0) in (
-      record { above = omega arith; below = omega arith; no-return = eqb-false b 0x0D (not-true _ (q .0)) },
-      even true b (eqb-false b 0x7B (not-true _ (m .0))) (eqb-false b 0x7D (not-true _ (m .1))) (eqb-false b 0x5C (not-true _ (s .0))),
-    )
+    either (within 0x20 0x5A b)
+    (λ u. plain-curly 0x20 0x5A b (omega arith) (omega arith) (λ e. absurd (omega (arith, within-true 0x20 0x5A b u .1))) u)
+    (λ u. plain-curly 0x60 0x7A b (omega arith) (omega arith) (λ e. omega arith) (rw u at t))
 plain-data false b t =
-    let p = both (within 1 0x7F b) _ t in
-    let q = both (not (eqb b 0x0D)) _ (p .1) in
-    let s = both (not (eqb b 0x5C)) (not (eqb b 0x22)) (q .1) in
-    let m = eqb-false b 0x22 (not-true _ (s .1)) in
-    let w = within-true 1 0x7F b (p .0) in (
-      record { above = omega arith; below = omega arith; no-return = eqb-false b 0x0D (not-true _ (q .0)) },
-      even false b m m (eqb-false b 0x5C (not-true _ (s .0))),
+    let p = both (within 0x20 0x7F b) _ t in
+    let q = both (not (eqb b 0x22)) (not (eqb b 0x5C)) (p .1) in
+    let m = eqb-false b 0x22 (not-true _ (q .0)) in
+    let w = within-true 0x20 0x7F b (p .0) in (
+      record { above = omega arith; below = omega arith; no-return = λ e. omega arith },
+      even false b m m (eqb-false b 0x5C (not-true _ (q .1))),
     )
 
 module _ (draft : List ℕ) (curly : Bool) where

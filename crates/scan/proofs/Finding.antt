@@ -6,6 +6,7 @@ use Prim.Native.Nat.{ℕ, _+_, _-_, _<_, _≤_}
 use native.Mathlib.Omega.{arith}
 use lib.Dec.{eqb}
 use lib.ListN.{length, getD}
+use borrow.Author.Tests.{eq-eqb, ne-eqb}
 use Rattle.chars.specs.Limits.{limits}
 use Rattle.chars.specs.Stream.{streamAt}
 use Rattle.tokens.specs.Tokens.{between, string, closed, shown, tokens, first, tokenAt}
@@ -78,15 +79,17 @@ module _ (draft : List ℕ) (at : ℕ) where
       ∙ d .closes at (i - at))
 
   pub curly-told :
-      (i after n : ℕ) → eqb (getD draft i 0) 0x7B ≡ true → Opens draft at i → Closed draft (eqb (getD draft i 0) 0x7B) (i + 1) after n
+      (i after n : ℕ) → getD draft i 0 ≡ 0x7B → Opens draft at i → Closed draft true (i + 1) after n
       → (r : Piece) → r ≡ record { sort = 2; place = at; after = after; prefix = i - at; from = i + 1; bytes = n; number = 0 }
       → Finds draft at r
   unfolding pieceOf shown closed openedAs sortOf
-  curly-told i after n c o d r e = tells (e ∙ ap pieceOf (sym (string-is i after n true c o (rw c at d)))) (λ some. ap (λ p. p .place) e)
+  curly-told i after n c o d r e =
+      tells (e ∙ ap pieceOf (sym (string-is i after n true (eq-eqb (getD draft i 0) 0x7B c) o d))) (λ some. ap (λ p. p .place) e)
 
   pub quoted-told :
-      (i after n : ℕ) → eqb (getD draft i 0) 0x7B ≡ false → Opens draft at i → Closed draft (eqb (getD draft i 0) 0x7B) (i + 1) after n
+      (i after n : ℕ) → (getD draft i 0 ≡ 0x7B → ⊥) → Opens draft at i → Closed draft false (i + 1) after n
       → (r : Piece) → r ≡ record { sort = 1; place = at; after = after; prefix = i - at; from = i + 1; bytes = n; number = 0 }
       → Finds draft at r
   unfolding pieceOf shown closed openedAs sortOf
-  quoted-told i after n c o d r e = tells (e ∙ ap pieceOf (sym (string-is i after n false c o (rw c at d)))) (λ some. ap (λ p. p .place) e)
+  quoted-told i after n c o d r e =
+      tells (e ∙ ap pieceOf (sym (string-is i after n false (ne-eqb (getD draft i 0) 0x7B c) o d))) (λ some. ap (λ p. p .place) e)

@@ -48,6 +48,29 @@ trailing-bytes k n r h = zero-bytes 8 r n (trailing-bits (r * 8) k n h)
 pub none-passed : (test : ℕ → Bool) (draft : List ℕ) (at : ℕ) → at ≤ length draft → Passed test draft at at
 none-passed test draft at h = record { on = omega arith; there = h; each = λ i g l. absurd (omega arith) }
 
+-- one byte more
+pub one-passed :
+    (test : ℕ → Bool) (draft : List ℕ) (at i : ℕ) → Passed test draft at i → i < length draft → test (getD draft i 0) ≡ true
+    → Passed test draft at (i + 1)
+one-passed test draft at i p h t =
+    record {
+      on = omega (arith, p .on);
+      there = omega arith;
+      each =
+          λ j g k.
+          by-bound j i (p .each j g) (λ m. let same : i ≡ j = omega arith in rw same at t);
+    }
+
+-- what is passed behind what has been passed
+pub both-passed :
+    (test : ℕ → Bool) (draft : List ℕ) (at i r : ℕ) → Passed test draft at i → Passed test draft i r → Passed test draft at r
+both-passed test draft at i r p q =
+    record {
+      on = omega (arith, p .on, q .on);
+      there = q .there;
+      each = λ j g k. by-bound j i (p .each j g) (λ m. q .each j m k);
+    }
+
 module _ (test : ℕ → Bool) (draft : List ℕ) (at i w flags n : ℕ) (p : Passed test draft at i) where
   -- behind what has been passed, the first `n` of eight bytes, where no flag stands
   pub more-passed :

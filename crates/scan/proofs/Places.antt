@@ -108,9 +108,6 @@ module _ (b : ℕ) where
   placed t (over after) some = refl
   placed t (bad number place) some = absurd (some refl)
 
-above : (k n : ℕ) → n ≤ k → (k ≡ n → ⊥) → suc n ≤ k
-above k n h e = omega arith
-
 module _ (draft : List ℕ) (at : ℕ) where
   -- the first token begins where it is looked for
   pub there :
@@ -127,12 +124,10 @@ module _ (draft : List ℕ) (at : ℕ) where
       (λ refusal place is. rw is (bad refusal place)))
 
   -- what begins a token is neither whitespace nor a comment
-  pub stands-token :
-      at < length draft → (k : ℕ) → k ≡ beginsOf (getD draft at 0) → (k ≡ 0 → ⊥) → (k ≡ 1 → ⊥) → (k ≡ 2 → ⊥) → Stands draft at
-  stands-token h k begins no0 no1 no2 =
+  pub stands-token : at < length draft → 3 ≤ beginsOf (getD draft at 0) → Stands draft at
+  stands-token h three =
       let b = getD draft at 0 in
-      let three = above k 2 (above k 1 (above k 0 (omega arith) no0) no1) no2 in
-      let two = begins-neither b (omega arith) in
+      let two = begins-neither b three in
       let is = alone-at draft at h (begins-own b (omega arith)) in
       record {
         neither = λ number after e.

@@ -7,11 +7,11 @@ use native.Mathlib.Omega.{arith}
 use lib.Dec.{leb, ltb, eqb}
 use borrow.Author.Tests.{eqb-true, eq-eqb, ltb-true, leb-true, le-leb, not-true}
 use Rattle.chars.specs.Choice.{within, among, ascii}
-use Rattle.chars.proofs.Cases.{either, both, by-bound}
+use Rattle.chars.proofs.Cases.{either, both}
 use Rattle.chars.proofs.Extent.{within-true}
 use Rattle.tokens.specs.Sorts.{visible, white, atomic, exclusive, inclusive, legal}
 use Rattle.tokens.specs.Runs.{classOf}
-use Rattle.tokens.proofs.Table.{below, holds, implied, if-then}
+use Rattle.tokens.proofs.Table.{below, implied, if-then}
 use Rattle.tokens.proofs.Classes.{Ending}
 use Rattle.scan.specs.Bytes.{beginsOf, endsOf, common}
 
@@ -106,8 +106,8 @@ common-plain b t =
     let low : b < 0x80 =
     either (within 0x2D 0x3A b)
     (λ u. omega (arith, within-true 0x2D 0x3A b u .1))
-    (λ u. either (within 0x3C 0x5A b)
-    (λ v. omega (arith, within-true 0x3C 0x5A b v .1))
+    (λ u. either (within 0x40 0x5A b)
+    (λ v. omega (arith, within-true 0x40 0x5A b v .1))
     (λ v. omega (arith, within-true 0x60 0x7A b (rw (u, v) at t) .1))) in
     within-true 3 4 (classOf b) (implied common (λ j. within 3 4 (classOf j)) 0x80 refl b low t)
 
@@ -172,14 +172,6 @@ begins-word b e =
     let bar =
     implied (λ j. eqb (beginsOf j) 6) (λ j. not (eqb j 0x7C)) 0x80 refl b low (eq-eqb (beginsOf b) 6 e) in
     (two .0, two .1, not-true (eqb b 0x7C) bar)
-
--- there is no other number
-pub begins-most : (b : ℕ) → beginsOf b ≤ 7
-unfolding beginsOf visible white atomic exclusive inclusive legal
-begins-most b =
-    by-bound b 0x80
-    (λ h. leb-true (beginsOf b) 7 (holds (λ j. leb (beginsOf j) 7) 0x80 refl b h))
-    (λ h. by-bound 0 (beginsOf b) (λ k. absurd (omega (arith, begins-low b k))) (λ k. omega arith))
 
 -- what begins nothing is neither whitespace nor `#`
 pub begins-nothing : (b : ℕ) → beginsOf b ≡ 0 → (white b ≡ false) × (eqb b 0x23 ≡ false)

@@ -3,17 +3,17 @@
 use mathlib.Core.Path.{_≡_, refl, sym, _∙_, ap}
 use mathlib.Core.Bool.{true, false, false≢true}
 use mathlib.Core.List.{List}
-use Prim.Native.Nat.{ℕ, suc, _+_, _-_, _<_, _≤_}
+use Prim.Native.Nat.{ℕ, _+_, _-_, _<_, _≤_}
 use native.Mathlib.Omega.{arith}
 use lib.Dec.{eqb}
-use lib.ListN.{length, getD}
+use lib.ListN.{length, getD, List·getD-eq-default}
 use borrow.Author.Tests.{eqb-true, eqb-false, eq-eqb}
 use Rattle.chars.specs.Choice.{if_then_else_}
 use Rattle.chars.specs.Limits.{limits}
 use Rattle.chars.specs.Character.{characterAt}
 use Rattle.chars.specs.Stream.{streamAt}
 use Rattle.chars.specs.declared.Character.the-variants.{Clean}
-use Rattle.chars.proofs.Cases.{either}
+use Rattle.chars.proofs.Cases.{either, by-bound}
 use Rattle.chars.proofs.Streams.{at-character}
 use Rattle.tokens.specs.Sorts.{visible, white, atomic, exclusive, inclusive, legal}
 use Rattle.tokens.specs.Tokens.{State, quoted, curly, Tokens, between, bar, word, string, tokens, step, begins, follows, opens}
@@ -21,14 +21,14 @@ use Rattle.tokens.specs.Tokens.{first, tokenAt}
 use Rattle.tokens.specs.Runs.{classOf, sortOf, openedAs, pastAll, pastComment}
 use Rattle.tokens.specs.declared.Token.the-variants.{Simple, Last}
 use Rattle.tokens.proofs.Classes.{plain, opening, is-white, atomic-curly, atomic-other, Atomic}
-use Rattle.tokens.proofs.Skipping.{alone-at, all-remark, no-mark, none-behind}
+use Rattle.tokens.proofs.Skipping.{alone-at, all-remark, no-mark}
 use Rattle.tokens.proofs.Starts as starts
 use Rattle.tokens.proofs.Words as words
-use Rattle.scan.specs.Bytes.{beginsOf}
+use Rattle.scan.specs.Bytes.{beginsOf, beginsAt}
 use Rattle.scan.specs.Found.{Worded}
-use Rattle.scan.specs.Opens.{Opens, Goes, Begun, Ends, Bar}
+use Rattle.scan.specs.Opens.{Opens, Goes, Ends}
 use Rattle.scan.proofs.Sorts.{begins-own, begins-white, begins-atomic, begins-curly, begins-opening, begins-bar}
-use Rattle.scan.proofs.Sorts.{begins-word, begins-most, begins-neither, ends-own, ends-ending, ends-opening}
+use Rattle.scan.proofs.Sorts.{begins-word, begins-neither, ends-own, ends-ending, ends-opening}
 
 -- the sort of a string by the byte that opens it
 sort-of : (b : ℕ) → inclusive b ≡ true → (if eqb b 0x22 then quoted else curly) ≡ sortOf (eqb b 0x7B)
@@ -46,18 +46,46 @@ opened-as :
 unfolding opens follows openedAs
 opened-as b begun prefix after rest t = rw (sort-of b t)
 
-above : (k n : ℕ) → n ≤ k → (k ≡ n → ⊥) → suc n ≤ k
-above k n h e = omega arith
+-- what the number of a place tells of its byte: `|` with `;` right behind it, any other `|`, or its own number
+data At (draft : List ℕ) (at k : ℕ) : Type 0 where
+  last : beginsOf (getD draft at 0) ≡ 5 → getD draft (at + 1) 0 ≡ 0x3B → k ≡ 5 → At draft at k
+  no-last : beginsOf (getD draft at 0) ≡ 5 → (getD draft (at + 1) 0 ≡ 0x3B → ⊥) → k ≡ 6 → At draft at k
+  own : (beginsOf (getD draft at 0) ≡ 5 → ⊥) → beginsOf (getD draft at 0) ≡ k → At draft at k
 
-last-two : (k : ℕ) → k ≤ 7 → 6 ≤ k → (k ≡ 7 → ⊥) → k ≡ 6
-last-two k h g e = omega arith
+at-place : (draft : List ℕ) (at k : ℕ) → k ≡ beginsAt draft at → At draft at k
+unfolding beginsAt
+at-place draft at k e =
+    let b = beginsOf (getD draft at 0) in
+    let next = getD draft (at + 1) 0 in
+    either (eqb b 5)
+    (λ t. either (eqb next 0x3B)
+    (λ u. last (eqb-true b 5 t) (eqb-true next 0x3B u) (e ∙ rw (t, u)))
+    (λ u. no-last (eqb-true b 5 t) (eqb-false next 0x3B u) (e ∙ rw (t, u))))
+    (λ t. own (eqb-false b 5 t) (sym (e ∙ rw t)))
 
--- the number that is left
-sixth :
-    (k : ℕ) → k ≤ 7 → (k ≡ 0 → ⊥) → (k ≡ 1 → ⊥) → (k ≡ 2 → ⊥) → (k ≡ 3 → ⊥) → (k ≡ 4 → ⊥) → (k ≡ 5 → ⊥) → (k ≡ 7 → ⊥) → k ≡ 6
-sixth k h no0 no1 no2 no3 no4 no5 no7 =
-    let three = above k 2 (above k 1 (above k 0 (omega arith) no0) no1) no2 in
-    last-two k h (above k 5 (above k 4 (above k 3 three no3) no4) no5) no7
+-- a number that tells of the byte alone
+pub own-number :
+    (draft : List ℕ) (at k : ℕ) → eqb k 5 ≡ false → eqb k 6 ≡ false → k ≡ beginsAt draft at → beginsOf (getD draft at 0) ≡ k
+own-number draft at k no5 no6 e = go (at-place draft at k e)
+  where
+    go : At draft at k → beginsOf (getD draft at 0) ≡ k
+    go (last five is z) = absurd (eqb-false k 5 no5 z)
+    go (no-last five none z) = absurd (eqb-false k 6 no6 z)
+    go (own other z) = z
+
+-- where a token begins, so it does by its byte
+pub token-number : (draft : List ℕ) (at k : ℕ) → k ≡ beginsAt draft at → 3 ≤ k → 3 ≤ beginsOf (getD draft at 0)
+token-number draft at k e h = go (at-place draft at k e)
+  where
+    go : At draft at k → 3 ≤ beginsOf (getD draft at 0)
+    go (last five is z) = omega arith
+    go (no-last five none z) = omega arith
+    go (own other z) = omega arith
+
+-- a byte other than 0 stands within the draft
+within-draft : (draft : List ℕ) (i : ℕ) → 0 < getD draft i 0 → i < length draft
+within-draft draft i h =
+    by-bound i (length draft) (λ l. l) (λ g. absurd (omega (arith, List·getD-eq-default draft 0 g)))
 
 module _ (draft : List ℕ) (at : ℕ) where
   -- whitespace is passed over
@@ -108,7 +136,7 @@ module _ (draft : List ℕ) (at : ℕ) where
     alone-curly e = let b = getD draft at 0 in alone (omega arith) (atomic-curly b (begins-curly b e))
 
     -- `|`
-    pub barred :
+    barred :
         beginsOf (getD draft at 0) ≡ 5 → tokenAt limits draft at ≡ first (tokens limits (bar at) (streamAt draft (at + 1)))
     unfolding tokenAt classOf visible white atomic exclusive inclusive legal
     barred e =
@@ -149,46 +177,47 @@ module _ (draft : List ℕ) (at : ℕ) where
               none);
         }
 
-    -- whatever else begins a token
-    pub begun :
-        (k : ℕ) → k ≡ beginsOf (getD draft at 0) → (k ≡ 0 → ⊥) → (k ≡ 1 → ⊥) → (k ≡ 2 → ⊥) → (k ≡ 3 → ⊥) → (k ≡ 7 → ⊥)
-        → (k ≡ 5 → tokens limits (bar at) (streamAt draft (at + 1)) ≡ tokens limits (word at 1) (streamAt draft (at + 1)))
-        → Begun draft at k
-    begun k e no0 no1 no2 no3 no7 goes-on =
-        let most = begins-most (getD draft at 0) in
-        record {
-          opened = λ four. opened (sym e ∙ four);
-          goes =
-              λ no4.
-              either (eqb k 5)
-              (λ t. let five = eqb-true k 5 t in barred (sym e ∙ five) ∙ ap first (goes-on five))
-              (λ t. let no5 = eqb-false k 5 t in worded (sym e ∙ sixth k (omega arith) no0 no1 no2 no3 no4 no5 no7));
-        }
+    -- `|` with `;` right behind it
+    bar-last : beginsOf (getD draft at 0) ≡ 5 → getD draft (at + 1) 0 ≡ 0x3B → tokenAt limits draft at ≡ Last at (at + 2)
+    unfolding classOf visible white atomic exclusive inclusive legal
+    bar-last e is =
+        let b = getD draft (at + 1) 0 in
+        let on : at + 1 + 1 ≡ at + 2 = omega arith in
+        let own : 1 ≤ classOf b = rw is (omega arith) in
+        barred e
+        ∙ (starts.last limits draft at (at + 1) b (at + 1 + 1) (alone-at draft (at + 1) (within-draft draft (at + 1) (omega arith)) own) is
+        ∙ ap (Last at) on)
 
-  -- behind `|`
-  pub bar-end : length draft ≤ at + 1 → Bar draft at false
-  bar-end h =
-      record {
-        ended = λ t. absurd (false≢true t);
-        goes = λ t. starts.no-last limits draft at (at + 1) (λ number after e z. none-behind draft (at + 1) h number after e);
-      }
+    -- any other `|`
+    bar-word :
+        beginsOf (getD draft at 0) ≡ 5 → (getD draft (at + 1) 0 ≡ 0x3B → ⊥)
+        → tokenAt limits draft at ≡ first (tokens limits (word at 1) (streamAt draft (at + 1)))
+    bar-word e none =
+        barred e
+        ∙ ap first
+        (starts.no-last limits draft at (at + 1)
+        (λ number after c z. no-mark draft 0x3B (at + 1) number after (omega arith) (λ l. omega arith) c none z))
 
-  pub bar-next : at + 1 < length draft → Bar draft at (eqb (getD draft (at + 1) 0) 0x3B)
-  unfolding classOf visible white atomic exclusive inclusive legal
-  bar-next h =
-      let b = getD draft (at + 1) 0 in
-      let on : at + 1 + 1 ≡ at + 2 = omega arith in
-      record {
-        ended =
-            λ t.
-            let is = eqb-true b 0x3B t in
-            let own : 1 ≤ classOf b = rw is (omega arith) in
-            starts.last limits draft at (at + 1) b (at + 1 + 1) (alone-at draft (at + 1) h own) is ∙ ap (Last at) on;
-        goes =
-            λ t.
-            starts.no-last limits draft at (at + 1)
-            (λ number after e z. no-mark draft 0x3B (at + 1) number after (omega arith) (λ l. omega arith) e (eqb-false b 0x3B t) z);
-      }
+    -- what stands at a place by its number
+    pub begun-last : 5 ≡ beginsAt draft at → tokenAt limits draft at ≡ Last at (at + 2)
+    begun-last e = go (at-place draft at 5 e)
+      where
+        go : At draft at 5 → tokenAt limits draft at ≡ Last at (at + 2)
+        go (last five is k) = bar-last five is
+        go (no-last five none k) = absurd (omega arith)
+        go (own no5 k) = absurd (no5 k)
+
+    pub begun-word :
+        6 ≡ beginsAt draft at → tokenAt limits draft at ≡ first (tokens limits (word at 1) (streamAt draft (at + 1)))
+    begun-word e = go (at-place draft at 6 e)
+      where
+        go : At draft at 6 → tokenAt limits draft at ≡ first (tokens limits (word at 1) (streamAt draft (at + 1)))
+        go (last five is k) = absurd (omega arith)
+        go (no-last five none k) = bar-word five none
+        go (own no5 k) = worded k
+
+    pub begun-string : 4 ≡ beginsAt draft at → Opens draft at at
+    begun-string e = opened (own-number draft at 4 refl refl e)
 
   -- the end of a string's prefix of no bytes
   pub opened-ends : at < length draft → Opens draft at at → Ends draft at at 2
@@ -196,9 +225,9 @@ module _ (draft : List ℕ) (at : ℕ) where
       record {
         on = omega arith;
         there = h;
+        some = λ e. absurd (omega arith);
         simple = λ e. absurd (omega arith);
         opened = λ e. o;
-        goes = λ e. absurd (omega arith);
       }
 
   -- the end of a token's own bytes
@@ -212,6 +241,7 @@ module _ (draft : List ℕ) (at : ℕ) where
       record {
         on = omega arith;
         there = w .there;
+        some = λ one. on;
         simple =
             λ one.
             let is = w .ends ∙ one in
@@ -231,10 +261,23 @@ module _ (draft : List ℕ) (at : ℕ) where
                   (o .no-exclusive) (o .is-inclusive)
                   ∙ ap first (opened-as b at (i - at) (i + 1) (λ state. tokens limits state (streamAt draft (i + 1))) (o .is-inclusive)));
             };
-        goes = λ none. record { is = all };
       }
 
+  -- and where it has not ended yet
+  pub word-goes :
+      (i how : ℕ) → tokenAt limits draft at ≡ first (tokens limits (word at 1) (streamAt draft (at + 1))) → Worded draft at i how
+      → Goes draft at i
+  word-goes i how e w = record { is = e ∙ ap first (w .same) }
+
   -- CR LF ends a token
-  pub line-ends : (i : ℕ) → Goes draft at i → characterAt draft i ≡ Clean 0x0A (i + 2) → tokenAt limits draft at ≡ Simple at i (i - at)
+  pub line-ends :
+      (i : ℕ) → at < i → i < length draft → Goes draft at i → characterAt draft i ≡ Clean 0x0A (i + 2) → Ends draft at i 1
   unfolding visible white exclusive legal
-  line-ends i g e = g .is ∙ words.ended limits draft at i 0x0A (i + 2) (i - at) e refl refl
+  line-ends i on h g e =
+      record {
+        on = omega arith;
+        there = h;
+        some = λ one. on;
+        simple = λ one. g .is ∙ words.ended limits draft at i 0x0A (i + 2) (i - at) e refl refl;
+        opened = λ two. absurd (omega arith);
+      }

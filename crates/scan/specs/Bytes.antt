@@ -1,5 +1,5 @@
 -- Sorts of bytes that the straight ways ask for, in the words of 004, section 3.1. Nothing here says more of the format than Sorts does.
-use Prim.Native.Nat.{ℕ, _<_, _≤_}
+use Prim.Native.Nat.{ℕ, _+_, _<_, _≤_}
 use mathlib.Core.Path.{_≡_}
 use mathlib.Core.Bool.{Bool, true, not, _&&_, _||_}
 use mathlib.Core.List.{List}
@@ -22,6 +22,14 @@ beginsOf b =
     else if visible b then 6
     else 0
 
+-- The same of the byte at a place, but that `|` is 5 only where `;` stands right behind it: there it begins the last token, and elsewhere
+-- any other one.
+unfoldable pub beginsAt : (draft : List ℕ) → (at : ℕ) → ℕ
+beginsAt draft at =
+    let begins = beginsOf (getD draft at 0) in
+    if eqb begins 5 then if eqb (getD draft (at + 1) 0) 0x3B then 5 else 6
+    else begins
+
 -- What a byte is behind a token's first: 1 ends it, left out, 2 opens a string, 3 goes on with it; and 0 is illegal or not US-ASCII.
 unfoldable pub endsOf : (b : ℕ) → ℕ
 endsOf b =
@@ -30,19 +38,20 @@ endsOf b =
     else if visible b then 3
     else 0
 
--- what words are mostly made of: letters, digits and - . / : < = > ? @ `
+-- what words are mostly made of: letters, digits and - . / : @ `
 unfoldable pub common : (b : ℕ) → Bool
-common b = within 0x2D 0x3A b || (within 0x3C 0x5A b || within 0x60 0x7A b)
+common b = within 0x2D 0x3A b || (within 0x40 0x5A b || within 0x60 0x7A b)
 
 -- what comments are mostly made of: SP, visible characters and DEL
 unfoldable pub remark : (b : ℕ) → Bool
 remark b = within 0x20 0x7F b
 
--- what string data is mostly made of: US-ASCII but for nul, CR, backslash and what takes the level up or down
+-- what string data is mostly made of: SP and visible characters, but for backslash and what takes the level up or down, and in a curly string
+-- but for all from `[` to `_` and from `{` on
 unfoldable pub plain : (curly : Bool) → (b : ℕ) → Bool
 plain curly b =
-    within 1 0x7F b && (not (eqb b 0x0D) && (not (eqb b 0x5C)
-    && (if curly then not (eqb b 0x7B) && not (eqb b 0x7D) else not (eqb b 0x22))))
+    if curly then within 0x20 0x5A b || within 0x60 0x7A b
+    else within 0x20 0x7F b && (not (eqb b 0x22) && not (eqb b 0x5C))
 
 -- Of eight bytes as one number, `flags` has a byte of 0 only where a byte of `w` passes a test.
 abbrev pub Flags : (test : ℕ → Bool) → (w flags : ℕ) → Type 0

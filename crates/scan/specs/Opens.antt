@@ -1,7 +1,7 @@
 -- What the straight ways know of a token before its end. Nothing here says more of the format than Tokens does.
 use Prim.Native.Nat.{ℕ, _+_, _-_, _<_, _≤_}
 use mathlib.Core.Path.{_≡_}
-use mathlib.Core.Bool.{Bool, true, false}
+use mathlib.Core.Bool.{false}
 use mathlib.Core.List.{List}
 use lib.Dec.{eqb}
 use lib.ListN.{length, getD}
@@ -10,9 +10,9 @@ use Rattle.chars.specs.Character.{characterAt}
 use Rattle.chars.specs.Stream.{streamAt}
 use Rattle.chars.specs.declared.Character.the-variants.{Clean}
 use Rattle.tokens.specs.Sorts.{white}
-use Rattle.tokens.specs.Tokens.{tokens, bar, word, string, first, tokenAt}
+use Rattle.tokens.specs.Tokens.{tokens, word, string, first, tokenAt}
 use Rattle.tokens.specs.Runs.{openedAs}
-use Rattle.tokens.specs.declared.Token.the-variants.{Simple, Last}
+use Rattle.tokens.specs.declared.Token.the-variants.{Simple}
 use Rattle.scan.specs.Found.{Finds}
 use Rattle.scan.specs.declared.Piece.{Piece}
 
@@ -35,20 +35,14 @@ pub record Opens (draft : List ℕ) (at i : ℕ) : Type 0 where
 pub record Goes (draft : List ℕ) (at i : ℕ) : Type 0 where
   pub is : tokenAt limits draft at ≡ first (tokens limits (word at (i - at)) (streamAt draft i))
 
--- a byte that begins a token which is not alone: a string where `begins` is 4, and bytes of its own elsewhere
-pub record Begun (draft : List ℕ) (at begins : ℕ) : Type 0 where
-  pub opened : begins ≡ 4 → Opens draft at at
-  pub goes : (begins ≡ 4 → ⊥) → tokenAt limits draft at ≡ first (tokens limits (word at 1) (streamAt draft (at + 1)))
-
--- the character at `i` behind a token's own bytes: it ends the token (`how` is 1), opens a string (2), or is illegal or not US-ASCII (0)
+-- The character at `i` behind a token's own bytes: it ends the token (`how` is 1), which then has some, or opens a string (2).
 pub record Ends (draft : List ℕ) (at i how : ℕ) : Type 0 where
   pub on : at ≤ i
   pub there : i < length draft
+  pub some : how ≡ 1 → at < i
   pub simple : how ≡ 1 → tokenAt limits draft at ≡ Simple at i (i - at)
   pub opened : how ≡ 2 → Opens draft at i
-  pub goes : how ≡ 0 → Goes draft at i
 
--- whether `;` stands behind `|` at `at`
-pub record Bar (draft : List ℕ) (at : ℕ) (r : Bool) : Type 0 where
-  pub ended : r ≡ true → first (tokens limits (bar at) (streamAt draft (at + 1))) ≡ Last at (at + 2)
-  pub goes : r ≡ false → tokens limits (bar at) (streamAt draft (at + 1)) ≡ tokens limits (word at 1) (streamAt draft (at + 1))
+-- what is known of a token's own bytes; `how` is 3 where nothing is
+abbrev pub Ended : (draft : List ℕ) → (at i how : ℕ) → Type 0
+Ended draft at i how = (how ≡ 3 → ⊥) → Ends draft at i how

@@ -38,25 +38,91 @@ fn inclusive(b: u8) -> bool
     }
 }
 
-// What a byte begins where no token has begun (specs/Bytes.antt, beginsOf).
+// What a byte begins (specs/Bytes.antt, beginsOf), of those below `-`.
+fn low(b: u8) -> u32
+    requires { ⌜ (b < 0x2D) × (b ≡ 0x20 → ⊥) ⌝ }
+    ensures { λ r. ⌜ r ≡ beginsOf b ⌝ }
+{
+    if b < b' ' {
+        if b == b'\n' {
+            return 1;
+        }
+        if b == b'\t' {
+            return 1;
+        }
+        return 0;
+    }
+    if b < b'(' {
+        if b == b'"' {
+            return 4;
+        }
+        if b == b'%' {
+            return 3;
+        }
+        if b == b'#' {
+            return 2;
+        }
+        return 6;
+    }
+    if b == b',' {
+        return 3;
+    }
+    if b < b'*' {
+        return 3;
+    }
+    6
+}
+
+// The same of those from `{` on.
+fn high(b: u8) -> u32
+    requires { ⌜ 0x7B ≤ b ⌝ }
+    ensures { λ r. ⌜ r ≡ beginsOf b ⌝ }
+{
+    if b == b'{' {
+        return 4;
+    }
+    if b == b'|' {
+        return 5;
+    }
+    if b == b'}' {
+        return 7;
+    }
+    if 0x7E < b {
+        return 0;
+    }
+    6
+}
+
+// What a byte begins where no token has begun (specs/Bytes.antt, beginsOf). SP and small letters are told first, since most bytes asked
+// about are these; comparisons stand for a `match`, of which the compiler would make a jump by a table, dearer than any of them.
 pub fn begins(b: u8) -> u32
     ensures { λ r. ⌜ r ≡ beginsOf b ⌝ }
 {
-    match b {
-        b'\t' | b' ' => 1,
-        b'\n' => 1,
-        b'#' => 2,
-        b'(' | b')' | b'[' | b']' | b',' | b'%' | b';' => 3,
-        b'"' | b'{' => 4,
-        b'|' => 5,
-        b'}' => 7,
-        _ => {
-            if visible(b) {
-                return 6;
-            }
-            0
-        }
+    if b == b' ' {
+        return 1;
     }
+    if b'`' <= b {
+        if b < b'{' {
+            return 6;
+        }
+        return high(b);
+    }
+    if b < b';' {
+        if b'-' <= b {
+            return 6;
+        }
+        return low(b);
+    }
+    if b == b'[' {
+        return 3;
+    }
+    if b == b']' {
+        return 3;
+    }
+    if b == b';' {
+        return 3;
+    }
+    6
 }
 
 // What a byte is behind a token's first (specs/Bytes.antt, endsOf). Most tokens are ended by SP or LF.

@@ -8,15 +8,14 @@ ghost use Rattle.tokens.specs.Runs.{bytesOf};
 ghost use Rattle.scan.specs.Bytes.{common, remark, plain, Flags, Passed};
 use tokens::number::eight;
 
-// A flag for each byte that words are not mostly made of: below `-`, `;`, from `[` to `_`, and above `z`.
+// A flag for each byte that words are not mostly made of: below `-`, and of the last five of each thirty-two, `;` to `?`, `[` to `_` and
+// from `{` on.
 fn word_flags(w: u64) -> u64
     ensures { λ r. ⌜ Flags common w r ⌝ }
 {
-    let x = w & 0x7F7F7F7F7F7F7F7F;
-    let low = x + 0x5353535353535353;
-    let semicolon = (x ^ 0x3B3B3B3B3B3B3B3B) + 0x7F7F7F7F7F7F7F7F;
-    let high = (x | 0x2020202020202020) + 0x0505050505050505;
-    (w | ((low & semicolon) ^ 0x8080808080808080) | high) & 0x8080808080808080
+    let low = (w & 0x7F7F7F7F7F7F7F7F) + 0x5353535353535353;
+    let high = (w & 0x1F1F1F1F1F1F1F1F) + 0x6565656565656565;
+    (w | (low ^ 0x8080808080808080) | high) & 0x8080808080808080
 }
 
 // A flag for each control character and each byte that is not US-ASCII.
@@ -28,29 +27,25 @@ fn remark_flags(w: u64) -> u64
     (w | (low ^ 0x8080808080808080)) & 0x8080808080808080
 }
 
-// A flag for each byte that quoted string data is not mostly made of: nul, CR, backslash, `"` and what is not US-ASCII.
+// A flag for each byte that quoted string data is not mostly made of: control characters and `"`, which change places with SP and those below
+// it where the bit 2 is turned, backslash, and what is not US-ASCII.
 fn quoted_flags(w: u64) -> u64
     ensures { λ r. ⌜ Flags (plain false) w r ⌝ }
 {
     let x = w & 0x7F7F7F7F7F7F7F7F;
-    let nul = x + 0x7F7F7F7F7F7F7F7F;
-    let line = (x ^ 0x0D0D0D0D0D0D0D0D) + 0x7F7F7F7F7F7F7F7F;
+    let low = (x ^ 0x0202020202020202) + 0x5F5F5F5F5F5F5F5F;
     let escape = (x ^ 0x5C5C5C5C5C5C5C5C) + 0x7F7F7F7F7F7F7F7F;
-    let quote = (x ^ 0x2222222222222222) + 0x7F7F7F7F7F7F7F7F;
-    (w | ((nul & line & escape & quote) ^ 0x8080808080808080)) & 0x8080808080808080
+    (w | ((low & escape) ^ 0x8080808080808080)) & 0x8080808080808080
 }
 
-// The same of curly string data, with `{` and `}` for `"`.
+// The same of curly string data: control characters, `[` to `_`, from `{` on, and what is not US-ASCII.
 fn curly_flags(w: u64) -> u64
     ensures { λ r. ⌜ Flags (plain true) w r ⌝ }
 {
     let x = w & 0x7F7F7F7F7F7F7F7F;
-    let nul = x + 0x7F7F7F7F7F7F7F7F;
-    let line = (x ^ 0x0D0D0D0D0D0D0D0D) + 0x7F7F7F7F7F7F7F7F;
-    let escape = (x ^ 0x5C5C5C5C5C5C5C5C) + 0x7F7F7F7F7F7F7F7F;
-    let up = (x ^ 0x7B7B7B7B7B7B7B7B) + 0x7F7F7F7F7F7F7F7F;
-    let down = (x ^ 0x7D7D7D7D7D7D7D7D) + 0x7F7F7F7F7F7F7F7F;
-    (w | ((nul & line & escape & up & down) ^ 0x8080808080808080)) & 0x8080808080808080
+    let low = x + 0x6060606060606060;
+    let high = (x | 0x2020202020202020) + 0x0505050505050505;
+    (w | (low ^ 0x8080808080808080) | high) & 0x8080808080808080
 }
 
 // The same of either.
@@ -71,6 +66,37 @@ fn before_flag(flags: u64) -> usize
     (bits / 8) as usize
 }
 
+// Whether words are mostly made of a byte; not of all such bytes, capitals are left out.
+fn usual(b: u8) -> bool
+    ensures { λ r. ⌜ (r ≡ true → common b ≡ true) ⌝ }
+{
+    if b < b'-' {
+        return false;
+    }
+    if b < b';' {
+        return true;
+    }
+    if b < b'`' {
+        return false;
+    }
+    b < b'{'
+}
+
+// From `at` on, behind such bytes, one by one: for a draft's last bytes, of which there are no eight.
+fn past_few(draft: &[u8], at: usize) -> usize
+    requires { ⌜ at ≤ length (now draft) ⌝ }
+    ensures { λ r. ⌜ Passed common (now (draft .entry)) at r ⌝ }
+{
+    let mut i = at;
+    while i < draft.len() {
+        if !usual(draft[i]) {
+            return i;
+        }
+        i += 1;
+    }
+    i
+}
+
 // From `at` on, behind bytes that words are mostly made of.
 pub fn past_common(draft: &[u8], at: usize) -> usize
     requires { ⌜ at ≤ length (now draft) ⌝ }
@@ -85,7 +111,7 @@ pub fn past_common(draft: &[u8], at: usize) -> usize
         }
         i += 8;
     }
-    i
+    past_few(draft, i)
 }
 
 // From `at` on, behind bytes that comments are mostly made of.

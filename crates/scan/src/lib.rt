@@ -1,18 +1,19 @@
 // What stands at a place of a draft, told by its first byte, a straight way for each sort: words, strings, comments and `|;`. Eight bytes
 // are looked at at once where they can be. What these ways do not know, refusals among it, is left to `tokens`.
 ghost use mathlib.Core.Path.{_≡_};
-ghost use Prim.Native.Nat.{_<_, _≤_};
+ghost use Prim.Native.Nat.{_+_, _<_, _≤_};
+ghost use lib.Dec.{eqb};
 ghost use lib.ListN.{length, getD};
-ghost use Rattle.scan.specs.Bytes.{beginsOf};
+ghost use Rattle.scan.specs.Bytes.{beginsOf, beginsAt};
 ghost use Rattle.scan.specs.Found.{pieceOf, Finds};
-ghost use Rattle.scan.specs.Opens.{Known, Stands, Opens, Goes, Begun, Ends, Bar};
+ghost use Rattle.scan.specs.Opens.{Known, Stands, Opens, Goes, Ended as EndedBy};
 
 pub mod byte;
 mod comment;
 mod eight;
 mod string;
 mod wide;
-mod word;
+pub mod word;
 
 use byte::is_line;
 use comment::comment_end;
@@ -97,41 +98,36 @@ fn apart(token: Token) -> Piece
     }
 }
 
-// A string behind the prefix from `at` up to `i`, where it is opened.
+// A string behind the prefix from `at` up to `i`, where it is opened. Each sort asks for its end by itself, so that the loop that finds it
+// stays a call, and the loop of reading stays short.
 fn string_piece(draft: &[u8], at: usize, i: usize) -> Piece
     requires { ⌜ (at ≤ i) × (i < length (now draft)) × Opens (now draft) at i ⌝ }
     ensures { λ r. ⌜ Known (now (draft .entry)) at r ⌝ }
 {
-    let curly = draft[i] == b'{';
     let from = i + 1;
-    let data = string_end(&draft[..], from, curly);
+    let prefix = i - at;
+    if draft[i] == b'{' {
+        let data = string_end(&draft[..], from, true);
+        let after = data.after;
+        let length = data.length;
+        if after == 0 {
+            return unknown();
+        }
+        return whole(2, at, after, prefix, from, length);
+    }
+    let data = string_end(&draft[..], from, false);
     let after = data.after;
     let length = data.length;
     if after == 0 {
         return unknown();
     }
-    let prefix = i - at;
-    if curly {
-        return whole(2, at, after, prefix, from, length);
-    }
     whole(1, at, after, prefix, from, length)
-}
-
-// A token that is not alone, by the character that ends its own bytes: a string has none of its own where `begins` is 4.
-fn worded(draft: &[u8], at: usize, begins: u32) -> Ended
-    requires { ⌜ (at < length (now draft)) × Begun (now draft) at begins ⌝ }
-    ensures { λ r. ⌜ ((r .how ≡ 3 → ⊥) → Ends (now (draft .entry)) at (r .at) (r .how)) ⌝ }
-{
-    if begins == 4 {
-        return Ended { at, how: 2 };
-    }
-    word_end(draft, at)
 }
 
 // Whether `|` at a place begins the last token.
 fn is_last(draft: &[u8], at: usize) -> bool
     requires { ⌜ at < length (now draft) ⌝ }
-    ensures { λ r. ⌜ Bar (now (draft .entry)) at r ⌝ }
+    ensures { λ r. ⌜ r ≡ eqb (getD (now (draft .entry)) (at + 1) 0) 0x3B ⌝ }
 {
     let next = at + 1;
     if draft.len() <= next {
@@ -167,57 +163,82 @@ fn comment_piece(draft: &[u8], at: usize) -> Piece
 }
 
 // A simple token that CR LF ends at `i`.
-fn line_ended(draft: &[u8], at: usize, i: usize) -> Piece
-    requires { ⌜ (at ≤ i) × (i < length (now draft)) × Goes (now draft) at i ⌝ }
-    ensures { λ r. ⌜ Known (now (draft .entry)) at r ⌝ }
+fn line_ended(draft: &[u8], at: usize, i: usize) -> Ended
+    requires { ⌜ (at < i) × (i < length (now draft)) × Goes (now draft) at i ⌝ }
+    ensures { λ r. ⌜ EndedBy (now (draft .entry)) at (r .at) (r .how) ⌝ }
 {
     if draft[i] != b'\r' {
-        return unknown();
+        return Ended { at: i, how: 3 };
     }
     if is_line(draft, i) {
-        return whole(0, at, i, i - at, 0, 0);
+        return Ended { at: i, how: 1 };
     }
-    unknown()
+    Ended { at: i, how: 3 }
 }
 
-// A token that is not alone.
-fn word_piece(draft: &[u8], at: usize, begins: u32) -> Piece
-    requires { ⌜ (at < length (now draft)) × Begun (now draft) at begins ⌝ }
-    ensures { λ r. ⌜ Known (now (draft .entry)) at r ⌝ }
+// Where a token's own bytes end: a string without a prefix has none, and a word or a prefix has some. 3 says nothing.
+pub fn worded(draft: &[u8], at: usize, begins: u32) -> Ended
+    requires { ⌜ (at < length (now draft)) × (begins ≡ beginsAt (now draft) at) ⌝ }
+    ensures { λ r. ⌜ EndedBy (now (draft .entry)) at (r .at) (r .how) ⌝ }
 {
-    let e = worded(draft, at, begins);
+    if begins == 4 {
+        return Ended { at, how: 2 };
+    }
+    if begins != 6 {
+        return Ended { at, how: 3 };
+    }
+    let e = word_end(draft, at);
     let how = e.how;
     let i = e.at;
-    if how == 1 {
-        return whole(0, at, i, i - at, 0, 0);
-    }
-    if how == 2 {
-        return string_piece(draft, at, i);
-    }
     if how == 0 {
         return line_ended(draft, at, i);
     }
+    Ended { at: i, how }
+}
+
+// A string, by the end of its prefix.
+fn word_piece(draft: &[u8], at: usize, e: Ended) -> Piece
+    requires { ⌜ EndedBy (now draft) at (e .at) (e .how) ⌝ }
+    ensures { λ r. ⌜ Known (now (draft .entry)) at r ⌝ }
+{
+    let how = e.how;
+    let i = e.at;
+    if how == 2 {
+        return string_piece(draft, at, i);
+    }
     unknown()
 }
 
+// What stands at a place begins so: as its byte does, but that `|` begins a word where no `;` stands right behind it.
+pub fn begins_at(draft: &[u8], at: usize) -> u32
+    requires { ⌜ at < length (now draft) ⌝ }
+    ensures { λ r. ⌜ r ≡ beginsAt (now (draft .entry)) at ⌝ }
+{
+    let begins = byte::begins(draft[at]);
+    if begins == 5 {
+        if !is_last(draft, at) {
+            return 6;
+        }
+    }
+    begins
+}
+
 // What stands at a place, as far as its first byte's straight way knows.
-fn straight(draft: &[u8], at: usize, begins: u32) -> Piece
-    requires { ⌜ (at < length (now draft)) × (begins ≡ beginsOf (getD (now draft) at 0)) ⌝ }
+fn straight(draft: &[u8], at: usize, begins: u32, e: Ended) -> Piece
+    requires { ⌜ (at < length (now draft)) × (begins ≡ beginsAt (now draft) at) × EndedBy (now draft) at (e .at) (e .how) ⌝ }
     ensures { λ r. ⌜ Known (now (draft .entry)) at r × (r .sort ≡ 6 → Stands (now (draft .entry)) at) ⌝ }
 {
-    if begins == 0 {
+    if begins < 3 {
+        if begins == 1 {
+            return whole(5, at, at + 1, 0, 0, 0);
+        }
+        if begins == 2 {
+            return comment_piece(draft, at);
+        }
         return line_piece(draft, at);
     }
-    if begins == 1 {
-        return whole(5, at, at + 1, 0, 0, 0);
-    }
-    if begins == 2 {
-        return comment_piece(draft, at);
-    }
     if begins == 5 {
-        if is_last(draft, at) {
-            return whole(3, at, at + 2, 0, 0, 0);
-        }
+        return whole(3, at, at + 2, 0, 0, 0);
     }
     if begins == 3 {
         return whole(0, at, at + 1, 1, 0, 0);
@@ -225,15 +246,15 @@ fn straight(draft: &[u8], at: usize, begins: u32) -> Piece
     if begins == 7 {
         return whole(0, at, at + 1, 1, 0, 0);
     }
-    word_piece(draft, at, begins)
+    word_piece(draft, at, e)
 }
 
-// What stands at a place whose byte begins so.
-pub fn found(draft: &[u8], at: usize, begins: u32) -> Piece
-    requires { ⌜ (at < length (now draft)) × (begins ≡ beginsOf (getD (now draft) at 0)) ⌝ }
+// What stands at a place that begins so, and whose own bytes end there as far as that is known.
+pub fn found(draft: &[u8], at: usize, begins: u32, e: Ended) -> Piece
+    requires { ⌜ (at < length (now draft)) × (begins ≡ beginsAt (now draft) at) × EndedBy (now draft) at (e .at) (e .how) ⌝ }
     ensures { λ r. ⌜ Finds (now (draft .entry)) at r ⌝ }
 {
-    let p = straight(draft, at, begins);
+    let p = straight(draft, at, begins, e);
     if p.sort != 6 {
         return p;
     }

@@ -3,7 +3,7 @@ use Prim.Native.Nat.{_-_}
 use native.Mathlib.Omega.{arith}
 use borrow.Author.Needs.{needs}
 use Rattle.scan.specs.Bytes.{common, Passed}
-use Rattle.scan.proofs.Flags.{none-passed, more-passed, no-flag}
+use Rattle.scan.proofs.Flags.{none-passed, more-passed, no-flag, both-passed}
 use Rattle.scan.proofs.eight.past_common.Statement.{statement}
 use Rattle.scan.proofs.eight.past_common.Tie as tie
 
@@ -67,8 +67,14 @@ loop-again c =
     more-passed common (a .draft .now) (a .at) (l .i) (e .result) (f .result) 8 (l .inv) (omega arith)
     (e .ensures) (f .ensures) (omega arith) (no-flag (f .result) (c .if1 .left))
 
+past-few-requires : tie.Need-past-few-requires Inv-loop μ-loop
+past-few-requires c κs = c .before .loop .inv .there
+
 returns-2 : tie.Need-returns-2 Inv-loop μ-loop
-returns-2 c = c .before .loop .inv
+returns-2 c =
+    let a = c .before .before .before .before .args in
+    let l = c .before .before .loop in
+    both-passed common (a .draft .now) (a .at) (l .i) (c .past-few .result) (l .inv) (c .past-few .ensures)
 
 pub past-common-spec : {M : Type 1} → statement M
 past-common-spec =
@@ -86,4 +92,5 @@ past-common-spec =
     add-i
     loop-less
     loop-again
+    past-few-requires
     returns-2)

@@ -1,61 +1,43 @@
--- `scan::word_flags` meets its contract. Of a byte below 80 hex: 53 more has the highest bit from `-` on; what differs from `;` by some bit
--- has it with 7F more; and with the bit 20 set, 5 more has it from `[` to `_` and above `z`. Assumes nothing.
+-- `scan::word_flags` meets its contract. Of a byte below 80 hex, 53 more has the highest bit from `-` on; and of its lowest five bits, 65
+-- more has it from 1B on. Assumes nothing.
 use mathlib.Core.Path.{refl}
 use Prim.Native.Nat.{ℕ, _+_, _^_, _<_}
 use native.Mathlib.Omega.{arith}
-use lib.Bits.{bitAnd, bitOr, bitXor, and-le-r, or-lt}
+use lib.Bits.{bitAnd, bitOr, bitXor, and-le-r}
 use lib.Dec.{eqb}
 use borrow.Author.Tests.{eq-eqb}
 use Rattle.tokens.specs.Runs.{bytesOf}
 use Rattle.tokens.proofs.Table.{implied}
 use Rattle.scan.specs.Bytes.{common}
-use Rattle.scan.proofs.Bytewise.{Made, itself, always, seven, raised, other, made-fits, made-flags}
-use Rattle.scan.proofs.Bytewise.{made-and, made-or, made-xor, made-sum}
+use Rattle.scan.proofs.Bytewise.{Made, itself, always, raised, made-fits, made-flags, made-and, made-or, made-xor, made-sum}
 use Rattle.scan.proofs.eight.word_flags.Statement.{statement}
 use Rattle.scan.proofs.eight.word_flags.Tie as tie
 
 -- what is made of a byte
 abbrev made : ℕ → ℕ
-made b =
-    let x = bitAnd b 0x7F in
-    bitAnd (bitOr (bitOr b (bitXor (bitAnd (x + 0x53) (bitXor x 0x3B + 0x7F)) 0x80)) (bitOr x 0x20 + 0x05)) 0x80
+made b = bitAnd (bitOr (bitOr b (bitXor (bitAnd b 0x7F + 0x53) 0x80)) (bitAnd b 0x1F + 0x65)) 0x80
 
 module _ (w : ℕ) (h : w < 2 ^ 64) where
-  low : Made w (λ b. bitAnd b 0x7F + 0x53) (bitAnd w 0x7F7F7F7F7F7F7F7F + 0x5353535353535353)
-  low = raised w h 0x53 (omega arith)
-
-  semicolon :
-      Made w (λ b. bitXor (bitAnd b 0x7F) 0x3B + 0x7F) (bitXor (bitAnd w 0x7F7F7F7F7F7F7F7F) 0x3B3B3B3B3B3B3B3B + 0x7F7F7F7F7F7F7F7F)
-  semicolon = other w h 0x3B (omega arith)
-
-  high : Made w (λ b. bitOr (bitAnd b 0x7F) 0x20 + 0x05) (bitOr (bitAnd w 0x7F7F7F7F7F7F7F7F) 0x2020202020202020 + 0x0505050505050505)
+  high : Made w (λ b. bitAnd b 0x1F + 0x65) (bitAnd w 0x1F1F1F1F1F1F1F1F + 0x6565656565656565)
   unfolding bytesOf
   high =
-      made-sum (made-or (seven w h) (always w 0x20 (omega arith))) (always w 0x05 (omega arith))
-      (λ b i. omega (arith, or-lt 7 (bitAnd b 0x7F) 0x20 (omega (arith, and-le-r b 0x7F)) (omega arith)))
+      made-sum (made-and (itself w h) (always w 0x1F (omega arith))) (always w 0x65 (omega arith))
+      (λ b i. omega (arith, and-le-r b 0x1F))
 
   flags :
       Made w made
       (bitAnd
       (bitOr
-      (bitOr w
-      (bitXor
-      (bitAnd
-      (bitAnd w 0x7F7F7F7F7F7F7F7F + 0x5353535353535353)
-      (bitXor (bitAnd w 0x7F7F7F7F7F7F7F7F) 0x3B3B3B3B3B3B3B3B + 0x7F7F7F7F7F7F7F7F))
-      0x8080808080808080))
-      (bitOr (bitAnd w 0x7F7F7F7F7F7F7F7F) 0x2020202020202020 + 0x0505050505050505))
+      (bitOr w (bitXor (bitAnd w 0x7F7F7F7F7F7F7F7F + 0x5353535353535353) 0x8080808080808080))
+      (bitAnd w 0x1F1F1F1F1F1F1F1F + 0x6565656565656565))
       0x8080808080808080)
   unfolding bytesOf
   flags =
       let top = always w 0x80 (omega arith) in
-      made-and (made-or (made-or (itself w h) (made-xor (made-and low semicolon) top)) high) top
+      made-and (made-or (made-or (itself w h) (made-xor (raised w h 0x53 (omega arith)) top)) high) top
 
 add-low : tie.Need-add-low
-add-low c = record { fits = made-fits (low (c .args .w) (c .fits .w .fits)) }
-
-add-semicolon : tie.Need-add-semicolon
-add-semicolon c = record { fits = made-fits (semicolon (c .args .w) (c .fits .w .fits)) }
+add-low c = record { fits = made-fits (raised (c .args .w) (c .fits .w .fits) 0x53 (omega arith)) }
 
 add-high : tie.Need-add-high
 add-high c = record { fits = made-fits (high (c .args .w) (c .fits .w .fits)) }
@@ -67,4 +49,4 @@ returns c =
     (λ b l e. implied (λ k. eqb (made k) 0) common 256 refl b l (eq-eqb (made b) 0 e))
 
 pub word-flags-spec : {M : Type 1} → statement M
-word-flags-spec = tie.close (tie.spec add-low add-semicolon add-high returns)
+word-flags-spec = tie.close (tie.spec add-low add-high returns)
