@@ -46,8 +46,8 @@ common b = within 0x2D 0x3A b || (within 0x40 0x5A b || within 0x60 0x7A b)
 unfoldable pub remark : (b : ℕ) → Bool
 remark b = within 0x20 0x7F b
 
--- what string data is mostly made of: SP and visible characters, but for backslash and what takes the level up or down, and in a curly string
--- but for all from `[` to `_` and from `{` on
+-- What string data is mostly made of: in a quoted string SP, visible characters and DEL, but for `"` and backslash; in a curly string SP
+-- and visible characters, but for all from `[` to `_` and from `{` on.
 unfoldable pub plain : (curly : Bool) → (b : ℕ) → Bool
 plain curly b =
     if curly then within 0x20 0x5A b || within 0x60 0x7A b

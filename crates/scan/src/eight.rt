@@ -27,8 +27,8 @@ fn remark_flags(w: u64) -> u64
     (w | (low ^ 0x8080808080808080)) & 0x8080808080808080
 }
 
-// A flag for each byte that quoted string data is not mostly made of: control characters and `"`, which change places with SP and those below
-// it where the bit 2 is turned, backslash, and what is not US-ASCII.
+// A flag for each byte that quoted string data is not mostly made of: control characters and `"`, which with the bit 2 turned are all those
+// below `!`, backslash, and what is not US-ASCII.
 fn quoted_flags(w: u64) -> u64
     ensures { λ r. ⌜ Flags (plain false) w r ⌝ }
 {

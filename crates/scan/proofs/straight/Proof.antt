@@ -22,7 +22,8 @@ returns c =
     let p = c .before .before .before .before .pre in
     found-told (a .draft .now) (a .at) _
     (passed-told (a .draft .now) (a .at) (a .at + 1) (omega arith) (omega (arith, p .0))
-    (blank-byte (a .draft .now) (a .at) (p .0) (own-number (a .draft .now) (a .at) 1 refl refl (sym (c .before .if2 .taken) ∙ p .1))) _ (c .whole .ensures))
+    (blank-byte (a .draft .now) (a .at) (p .0) (own-number (a .draft .now) (a .at) 1 refl refl (sym (c .before .if2 .taken) ∙ p .1))) _
+    (c .whole .ensures))
 
 comment-piece-requires : tie.Need-comment-piece-requires
 comment-piece-requires c κs =
@@ -40,7 +41,7 @@ line-piece-requires c κs =
     let a = c .before .before .before .before .args in
     let p = c .before .before .before .before .pre in
     let zero : a .begins ≡ 0 = omega (arith, c .before .if2 .left, c .if3 .left) in
-    (p .0, own-number (a .draft .now) (a .at) 0 refl refl (sym (zero) ∙ p .1))
+    (p .0, own-number (a .draft .now) (a .at) 0 refl refl (sym zero ∙ p .1))
 
 returns-3 : tie.Need-returns-3
 returns-3 c = search needs

@@ -48,7 +48,10 @@ returns-8 c = ap beginsOf (sym (c .if8 .taken))
 
 returns-9 : tie.Need-returns-9
 unfolding beginsOf visible white atomic inclusive
-returns-9 c = alike beginsOf 6 0x3B 0x5F (0x5B ∷ 0x5D ∷ 0x3B ∷ []) refl (c .before .before .before .before .before .before .args .b) (search needs) (omega arith) (omega arith) (c .before .before .if6 .left, (c .before .if7 .left, (c .if8 .left, tt)))
+returns-9 c =
+    alike beginsOf 6 0x3B 0x5F (0x5B ∷ 0x5D ∷ 0x3B ∷ []) refl
+    (c .before .before .before .before .before .before .args .b) (search needs) (omega arith) (omega arith)
+    (c .before .before .if6 .left, (c .before .if7 .left, (c .if8 .left, tt)))
 
 pub begins-spec : {M : Type 1} → statement M
 begins-spec =

@@ -28,7 +28,10 @@ returns-4 c = alike beginsOf 0 0x7F 0xFF [] refl (c .before .before .before .bef
 
 returns-5 : tie.Need-returns-5
 unfolding beginsOf visible white atomic inclusive
-returns-5 c = alike beginsOf 6 0x7B 0x7E (0x7B ∷ 0x7C ∷ 0x7D ∷ []) refl (c .before .before .before .before .args .b) (search needs) (omega arith) (omega arith) (c .before .before .before .if1 .left, (c .before .before .if2 .left, (c .before .if3 .left, tt)))
+returns-5 c =
+    alike beginsOf 6 0x7B 0x7E (0x7B ∷ 0x7C ∷ 0x7D ∷ []) refl
+    (c .before .before .before .before .args .b) (search needs) (omega arith) (omega arith)
+    (c .before .before .before .if1 .left, (c .before .before .if2 .left, (c .before .if3 .left, tt)))
 
 pub high-spec : {M : Type 1} → statement M
 high-spec = tie.close (tie.spec returns returns-2 returns-3 returns-4 returns-5)

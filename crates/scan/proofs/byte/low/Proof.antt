@@ -20,7 +20,9 @@ returns-2 c = ap beginsOf (sym (c .if3 .taken))
 
 returns-3 : tie.Need-returns-3
 unfolding beginsOf visible white atomic inclusive
-returns-3 c = alike beginsOf 0 0 31 (10 ∷ 9 ∷ []) refl (c .before .before .before .args .b) (search needs) (omega arith) (omega arith) (c .before .if2 .left, (c .if3 .left, tt))
+returns-3 c =
+    alike beginsOf 0 0 31 (10 ∷ 9 ∷ []) refl (c .before .before .before .args .b) (search needs) (omega arith) (omega arith)
+    (c .before .if2 .left, (c .if3 .left, tt))
 
 returns-4 : tie.Need-returns-4
 unfolding beginsOf visible white atomic inclusive
@@ -36,7 +38,10 @@ returns-6 c = ap beginsOf (sym (c .if7 .taken))
 
 returns-7 : tie.Need-returns-7
 unfolding beginsOf visible white atomic inclusive
-returns-7 c = alike beginsOf 6 32 39 (32 ∷ 34 ∷ 37 ∷ 35 ∷ []) refl (c .before .before .before .before .before .args .b) (search needs) (omega arith) (omega arith) (c .before .before .before .before .before .pre .1, (c .before .before .if5 .left, (c .before .if6 .left, (c .if7 .left, tt))))
+returns-7 c =
+    alike beginsOf 6 32 39 (32 ∷ 34 ∷ 37 ∷ 35 ∷ []) refl
+    (c .before .before .before .before .before .args .b) (search needs) (omega arith) (omega arith)
+    (c .before .before .before .before .before .pre .1, (c .before .before .if5 .left, (c .before .if6 .left, (c .if7 .left, tt))))
 
 returns-8 : tie.Need-returns-8
 unfolding beginsOf visible white atomic inclusive
@@ -48,7 +53,9 @@ returns-9 c = alike beginsOf 3 40 41 [] refl (c .before .before .before .before 
 
 returns-10 : tie.Need-returns-10
 unfolding beginsOf visible white atomic inclusive
-returns-10 c = alike beginsOf 6 42 44 (44 ∷ []) refl (c .before .before .before .before .args .b) (search needs) (omega arith) (omega arith) (c .before .if8 .left, tt)
+returns-10 c =
+    alike beginsOf 6 42 44 (44 ∷ []) refl (c .before .before .before .before .args .b) (search needs) (omega arith) (omega arith)
+    (c .before .if8 .left, tt)
 
 pub low-spec : {M : Type 1} → statement M
 low-spec =

@@ -34,7 +34,9 @@ module _ (w : ℕ) (h : w < 2 ^ 64) where
   unfolding bytesOf
   flags =
       let top = always w 0x80 (omega arith) in
-      made-and (made-or (itself w h) (made-xor (made-and (turned w h 0x02 0x5F (omega arith) (omega arith)) (turned w h 0x5C 0x7F (omega arith) (omega arith))) top)) top
+      let low = turned w h 0x02 0x5F (omega arith) (omega arith) in
+      let escape = turned w h 0x5C 0x7F (omega arith) (omega arith) in
+      made-and (made-or (itself w h) (made-xor (made-and low escape) top)) top
 
 add-low : tie.Need-add-low
 add-low c = record { fits = made-fits (turned (c .args .w) (c .fits .w .fits) 0x02 0x5F (omega arith) (omega arith)) }
