@@ -28,9 +28,17 @@ use Rattle.reading.proofs.Entering.{too-many, no-room, entered, ready-e
 abbrev seven : ℕ → Bool
 seven k = eqb k 0x28 || (eqb k 0x29 || (eqb k 0x5B || (eqb k 0x2C || (eqb k 0x5D || (eqb k 0x25 || eqb k 0x3B)))))
 
-one-of-seven : (c : ℕ) → c < 256 → structural c ≡ true → seven c ≡ true
+pub one-of-seven : (c : ℕ) → c < 256 → structural c ≡ true → seven c ≡ true
 unfolding structural beginsOf white inclusive atomic visible
 one-of-seven = implied structural seven 256 refl
+
+-- below `*`
+pub percent : (c : ℕ) → c < 256 → structural c ≡ true → c < 0x2A → (c ≡ 0x28 → ⊥) → (c ≡ 0x29 → ⊥) → c ≡ 0x25
+unfolding structural beginsOf white inclusive atomic visible
+percent c h t low begins ends =
+    eqb-true c 0x25
+    (implied (λ k. structural k && (ltb k 0x2A && (not (eqb k 0x28) && not (eqb k 0x29)))) (λ k. eqb k 0x25) 256 refl c h
+    (rw (t, lt-ltb c 0x2A low, ne-eqb c 0x28 begins, ne-eqb c 0x29 ends)))
 
 pub semicolon :
     (c : ℕ) → c < 256 → structural c ≡ true → (c ≡ 0x28 → ⊥) → (c ≡ 0x29 → ⊥) → (c ≡ 0x5B → ⊥) → (c ≡ 0x2C → ⊥) → (c ≡ 0x5D → ⊥)
@@ -173,7 +181,7 @@ module _ (s : State) (list groups : List ℕ) (place : ℕ) where
 
     pub ended :
         s .depth ≤ 0 → (r : Step) (list′ : List ℕ)
-        → Fits s list (bares 0 place ++ (counting 17 place 0 ∷ [])) (s .mode) (s .depth) list′ r → Ended r list′
+        → Fits s list (counting 17 place 0 ∷ []) (s .mode) (s .depth) list′ r → Ended r list′
     unfolding handled readerOf judged-last adds bare bares counting kindOf
     ended flat r list′ x text ready =
         let empty = empty-bares 0 place (counting 17 place 0 ∷ []) (empty-counting 17 place 0 [] nothing) in

@@ -39,7 +39,7 @@ empty-size : (e : Entity) → e .text ≡ [] → e .string ≡ [] → size e ≡
 unfolding size
 empty-size e t u = rw (t, u)
 
-empty-sizes : (es : List Entity) → Empty es → sizes es ≡ 0
+pub empty-sizes : (es : List Entity) → Empty es → sizes es ≡ 0
 unfolding sizes
 empty-sizes es nothing = refl
 empty-sizes es (more e fs t u x) = omega (arith, empty-size e t u, empty-sizes fs x)
@@ -50,7 +50,7 @@ empty-texts es nothing = refl
 empty-texts es (more e fs t u x) = rw (t, u, empty-texts fs x)
 
 -- too many of them is all that can be short
-empty-short : (T : ℕ) (es : List Entity) → Empty es → (E : ℕ) → shortage E T es ≡ (if ltb E (length es) then 18 else 0)
+pub empty-short : (T : ℕ) (es : List Entity) → Empty es → (E : ℕ) → shortage E T es ≡ (if ltb E (length es) then 18 else 0)
 unfolding shortage
 empty-short T es nothing E = rw (le-ltb E 0 (omega arith))
 empty-short T es (more e fs t u x) E =

@@ -10,7 +10,9 @@ pub mod Rules
 pub mod Entering
 pub mod OneEntity
 pub mod Worded
+pub mod Roomed
 pub mod Alone
+pub mod Leading
 pub mod Walking
 pub mod Turning
 pub mod Held

@@ -2,7 +2,7 @@
 -- allowed is entities with nothing in them but a count, which Fitting holds against Making.
 use mathlib.Core.Path.{_≡_, refl, sym, _∙_, ap}
 use mathlib.Core.Bool.{true, false}
-use mathlib.Core.List.{List, [], _∷_, _++_, append-nil}
+use mathlib.Core.List.{List, [], _∷_}
 use Prim.Native.Nat.{ℕ, zero, suc, _+_, _-_, _<_, _≤_}
 use native.Mathlib.Omega.{arith}
 use lib.Dec.{eqb}
@@ -13,9 +13,10 @@ use Rattle.reading.specs.Entity.{Entity, bare, end-group}
 use Rattle.reading.specs.Making.{Reader, Judged, refuses, makes, fitted, within-groups, group-begins, group-ends, element-ends}
 use Rattle.reading.specs.Making.{counted, array-ends, regular, command, judged}
 use Rattle.reading.specs.Judging.{bares, kindOf, counting}
-use Rattle.reading.specs.Stepping.{Steady, openGroups, below, readerOf, judgedAs, took, agrees, Fits, Ruled}
+use Rattle.reading.specs.Stepping.{Steady, openGroups, below, readerOf, judgedAs, took, agrees, Fits, room, Ruled}
 use Rattle.reading.specs.declared.state.State.{State}
 use Rattle.reading.specs.declared.state.Step.{Step}
+use Rattle.reading.proofs.Listing.{written-none}
 use Rattle.reading.proofs.Fitting.{Empty, nothing, more, empty-bares, empty-counting, fits-agrees}
 use Rattle.reading.proofs.OpenGroups.{so-many, innermost, none-open, topped, renumbered, higher, below-top}
 
@@ -74,7 +75,7 @@ split a k n t some = rw (t, innermost a k some) (topped a k some)
 pub small-top : (a : List ℕ) (k n most : ℕ) → n ≡ getD (openGroups a k) 0 0 → below (openGroups a k) most → n ≤ most
 small-top a k n most t b = omega (arith, t, below-top (openGroups a k) most b)
 
-module _ (s : State) (list groups : List ℕ) (place lead : ℕ) (r : Step) (list′ : List ℕ) where
+module _ (s : State) (list groups : List ℕ) (place : ℕ) (r : Step) (list′ : List ℕ) where
   abbrev gs : List ℕ
   gs = openGroups groups (s .depth)
 
@@ -84,7 +85,7 @@ module _ (s : State) (list groups : List ℕ) (place lead : ℕ) (r : Step) (lis
   -- a refusal
   refused :
       (c n : ℕ) (groups′ : List ℕ) → ((T : List ℕ) → getD T 0 0 ≡ c → comes T ≡ refuses n) → (n ≡ 0 → ⊥)
-      → r ≡ record { number = n; state = s } → Ruled c lead s list groups place r list groups′
+      → r ≡ record { number = n; state = s } → Ruled c 0 s list groups place r list groups′
   unfolding Ruled agrees fitted took
   refused c n groups′ says some is T text e ready = rw (is, says T e, ne-eqb n 0 some) (refl, refl, refl, refl, refl)
 
@@ -92,14 +93,14 @@ module _ (s : State) (list groups : List ℕ) (place lead : ℕ) (r : Step) (lis
   allowed :
       (c : ℕ) (own : List Entity) (q : Reader) (mode depth : ℕ) (groups′ : List ℕ)
       → ((T : List ℕ) → getD T 0 0 ≡ c → comes T ≡ makes own q) → Empty own
-      → Fits s list (bares lead place ++ own) mode depth list′ r
+      → Fits s list own mode depth list′ r
       → q ≡ record { metacommand = eqb mode 2; opened = eqb mode 1; groups = openGroups groups′ depth }
       → depth ≤ 64 → length groups′ ≡ 64 → below (openGroups groups′ depth) (place + 2)
-      → Ruled c lead s list groups place r list′ groups′
-  unfolding Ruled
+      → Ruled c 0 s list groups place r list′ groups′
+  unfolding Ruled bares
   allowed c own q mode depth groups′ says x f eq deep long numbers T text e ready =
       rw (says T e)
-      (fits-agrees s list text groups groups′ place lead own q (empty-bares lead place own x) ready mode depth list′ r f eq deep long
+      (fits-agrees s list text groups groups′ place 0 own q (empty-bares 0 place own x) ready mode depth list′ r f eq deep long
       numbers)
 
   module _ (steady : Steady s list groups place) where
@@ -127,13 +128,13 @@ module _ (s : State) (list groups : List ℕ) (place lead : ℕ) (r : Step) (lis
       one-more T e h = begins-here T e ∙ rw (so-many groups (s .depth), lt-ltb (s .depth) 64 h)
 
       pub begins-refused :
-          (groups′ : List ℕ) → 64 ≤ s .depth → r ≡ record { number = 17; state = s } → Ruled 0x28 lead s list groups place r list groups′
+          (groups′ : List ℕ) → 64 ≤ s .depth → r ≡ record { number = 17; state = s } → Ruled 0x28 0 s list groups place r list groups′
       begins-refused groups′ h is = refused 0x28 17 groups′ (λ T e. too-deep T e h) (λ e. omega arith) is
 
       pub begins-allowed :
           (groups′ : List ℕ) → s .depth < 64 → openGroups groups′ (s .depth + 1) ≡ 0 ∷ gs → length groups′ ≡ 64
-          → Fits s list (bares lead place ++ (counting 6 place 0 ∷ [])) 0 (s .depth + 1) list′ r
-          → Ruled 0x28 lead s list groups place r list′ groups′
+          → Fits s list (counting 6 place 0 ∷ []) 0 (s .depth + 1) list′ r
+          → Ruled 0x28 0 s list groups place r list′ groups′
       unfolding within-groups below
       begins-allowed groups′ h o long f =
           allowed 0x28 (counting 6 place 0 ∷ []) (within-groups (0 ∷ gs)) 0 (s .depth + 1) groups′ (λ T e. one-more T e h)
@@ -155,19 +156,19 @@ module _ (s : State) (list groups : List ℕ) (place lead : ℕ) (r : Step) (lis
       one-fewer T e some h = ends-here T e ∙ rw (split groups (s .depth) 0 (sym h) some)
 
       pub ends-none :
-          (groups′ : List ℕ) → s .depth ≡ 0 → r ≡ record { number = 14; state = s } → Ruled 0x29 lead s list groups place r list groups′
+          (groups′ : List ℕ) → s .depth ≡ 0 → r ≡ record { number = 14; state = s } → Ruled 0x29 0 s list groups place r list groups′
       ends-none groups′ h is = refused 0x29 14 groups′ (λ T e. none-here T e h) (λ e. omega arith) is
 
       pub ends-refused :
           (groups′ : List ℕ) (n : ℕ) → n ≡ getD gs 0 0 → (n ≡ 0 → ⊥) → r ≡ record { number = 14; state = s }
-          → Ruled 0x29 lead s list groups place r list groups′
+          → Ruled 0x29 0 s list groups place r list groups′
       ends-refused groups′ n t h is =
           refused 0x29 14 groups′ (λ T e. ends-here T e ∙ no-group gs place (λ z. h (t ∙ z))) (λ e. omega arith) is
 
       pub ends-allowed :
           (n : ℕ) → n ≡ getD gs 0 0 → n ≡ 0 → (s .depth ≡ 0 → ⊥)
-          → Fits s list (bares lead place ++ (counting 7 place 0 ∷ [])) 0 (s .depth - 1) list′ r
-          → Ruled 0x29 lead s list groups place r list′ groups
+          → Fits s list (counting 7 place 0 ∷ []) 0 (s .depth - 1) list′ r
+          → Ruled 0x29 0 s list groups place r list′ groups
       unfolding within-groups
       ends-allowed n t z some f =
           allowed 0x29 (counting 7 place 0 ∷ []) (within-groups (openGroups groups (s .depth - 1))) 0 (s .depth - 1) groups
@@ -180,10 +181,13 @@ module _ (s : State) (list groups : List ℕ) (place lead : ℕ) (r : Step) (lis
       array-here T e = rw (regularly, e)
 
       pub array-allowed :
-          Fits s list (bares lead place) 1 (s .depth) list′ r → Ruled 0x5B lead s list groups place r list′ groups
-      array-allowed f =
+          list′ ≡ list → r ≡ record { number = 0; state = record { mode = 1; depth = s .depth; entities = s .entities; text = s .text } }
+          → Ruled 0x5B 0 s list groups place r list′ groups
+      array-allowed same is =
+          let none : s .entities + 0 ≡ s .entities = omega arith in
           allowed 0x5B [] (record { metacommand = false; opened = true; groups = gs }) 1 (s .depth) groups array-here nothing
-          (rw (append-nil (bares lead place)) f) refl (steady .deep) (steady .array) as-many
+          (room (omega (arith, steady .held)) (same ∙ sym (written-none list (s .entities) (s .text))) (rw none is)) refl (steady .deep)
+          (steady .array) as-many
 
       -- `,`
       next-here : (T : List ℕ) → getD T 0 0 ≡ 0x2C → comes T ≡ element-ends gs place
@@ -201,14 +205,14 @@ module _ (s : State) (list groups : List ℕ) (place lead : ℕ) (r : Step) (lis
 
       pub next-refused :
           (groups′ : List ℕ) (n : ℕ) → n ≡ getD gs 0 0 → n ≡ 0 → r ≡ record { number = 15; state = s }
-          → Ruled 0x2C lead s list groups place r list groups′
+          → Ruled 0x2C 0 s list groups place r list groups′
       next-refused groups′ n t z is =
           refused 0x2C 15 groups′ (λ T e. next-here T e ∙ no-element gs place (sym t ∙ z)) (λ e. omega arith) is
 
       pub next-allowed :
           (groups′ : List ℕ) (n : ℕ) → n ≡ getD gs 0 0 → (n ≡ 0 → ⊥) → groups′ ≡ set groups (s .depth - 1) (n + 1)
-          → Fits s list (bares lead place ++ (bare end-group place ∷ counting 6 place 0 ∷ [])) 0 (s .depth) list′ r
-          → Ruled 0x2C lead s list groups place r list′ groups′
+          → Fits s list (bare end-group place ∷ counting 6 place 0 ∷ []) 0 (s .depth) list′ r
+          → Ruled 0x2C 0 s list groups place r list′ groups′
       unfolding within-groups below
       next-allowed groups′ n t some g f =
           let deep = deep-enough groups (s .depth) n t some in
@@ -233,8 +237,8 @@ module _ (s : State) (list groups : List ℕ) (place lead : ℕ) (r : Step) (lis
       closes-behind T e m = closes-here T e ∙ rw (ne-eqb (s .mode) 1 m)
 
       pub closes-empty :
-          s .mode ≡ 1 → Fits s list (bares lead place ++ (counting 8 place 0 ∷ [])) 0 (s .depth) list′ r
-          → Ruled 0x5D lead s list groups place r list′ groups
+          s .mode ≡ 1 → Fits s list (counting 8 place 0 ∷ []) 0 (s .depth) list′ r
+          → Ruled 0x5D 0 s list groups place r list′ groups
       unfolding within-groups
       closes-empty m f =
           allowed 0x5D (counting 8 place 0 ∷ []) (within-groups gs) 0 (s .depth) groups (λ T e. empty-array T e m) (empty-one 8 place 0) f
@@ -242,14 +246,14 @@ module _ (s : State) (list groups : List ℕ) (place lead : ℕ) (r : Step) (lis
 
       pub closes-refused :
           (n : ℕ) → (s .mode ≡ 1 → ⊥) → n ≡ getD gs 0 0 → n ≡ 0 → r ≡ record { number = 16; state = s }
-          → Ruled 0x5D lead s list groups place r list groups
+          → Ruled 0x5D 0 s list groups place r list groups
       closes-refused n m t z is =
           refused 0x5D 16 groups (λ T e. closes-behind T e m ∙ no-array gs place (sym t ∙ z)) (λ e. omega arith) is
 
       pub closes-allowed :
           (n : ℕ) → (s .mode ≡ 1 → ⊥) → n ≡ getD gs 0 0 → (n ≡ 0 → ⊥)
-          → Fits s list (bares lead place ++ (bare end-group place ∷ counting 8 place n ∷ [])) 0 (s .depth - 1) list′ r
-          → Ruled 0x5D lead s list groups place r list′ groups
+          → Fits s list (bare end-group place ∷ counting 8 place n ∷ []) 0 (s .depth - 1) list′ r
+          → Ruled 0x5D 0 s list groups place r list′ groups
       unfolding within-groups
       closes-allowed n m t some f =
           let h = some-open groups (s .depth) n t some in
@@ -268,8 +272,8 @@ module _ (s : State) (list groups : List ℕ) (place lead : ℕ) (r : Step) (lis
       command-here T e = rw (regularly, e)
 
       pub command-begins :
-          Fits s list (bares lead place ++ (counting 1 place 0 ∷ [])) 2 (s .depth) list′ r
-          → Ruled 0x25 lead s list groups place r list′ groups
+          Fits s list (counting 1 place 0 ∷ []) 2 (s .depth) list′ r
+          → Ruled 0x25 0 s list groups place r list′ groups
       command-begins f =
           allowed 0x25 (counting 1 place 0 ∷ []) (record { metacommand = true; opened = false; groups = gs }) 2 (s .depth) groups
           command-here (empty-one 1 place 0) f refl (steady .deep) (steady .array) as-many
@@ -281,8 +285,8 @@ module _ (s : State) (list groups : List ℕ) (place lead : ℕ) (r : Step) (lis
     command-over m T e = rw (eq-eqb (s .mode) 2 m, e)
 
     pub command-ends :
-        s .mode ≡ 2 → Fits s list (bares lead place ++ (counting 2 place 0 ∷ [])) 0 (s .depth) list′ r
-        → Ruled 0x3B lead s list groups place r list′ groups
+        s .mode ≡ 2 → Fits s list (counting 2 place 0 ∷ []) 0 (s .depth) list′ r
+        → Ruled 0x3B 0 s list groups place r list′ groups
     unfolding within-groups
     command-ends m f =
         allowed 0x3B (counting 2 place 0 ∷ []) (within-groups gs) 0 (s .depth) groups (command-over m) (empty-one 2 place 0) f refl

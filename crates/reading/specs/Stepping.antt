@@ -2,9 +2,9 @@
 -- Making does.
 use Prim.Native.Nat.{ℕ, zero, suc, _+_, _-_, _*_, _<_, _≤_, _/_}
 use mathlib.Core.Path.{_≡_}
-use mathlib.Core.Bool.{Bool, false, not, _||_}
+use mathlib.Core.Bool.{Bool, true, false, not, _&&_, _||_}
 use mathlib.Core.List.{List, [], _∷_}
-use lib.Dec.{eqb}
+use lib.Dec.{leb, eqb}
 use lib.ListN.{length, getD, take, drop}
 use Rattle.chars.specs.Choice.{if_then_else_}
 use Rattle.chars.specs.Limits.{limits}
@@ -13,8 +13,8 @@ use Rattle.tokens.specs.Tokens.{simple, quoted, curly, tokens, between}
 use Rattle.tokens.specs.Runs.{classOf}
 use Rattle.scan.specs.Bytes.{beginsOf}
 use Rattle.reading.specs.Entity.{Entity, sizes}
-use Rattle.reading.specs.Making.{Reader, Judged, Room, Handled, stops, holds, fitted, closing, judged, judged-last}
-use Rattle.reading.specs.Judging.{bares, written, textWritten}
+use Rattle.reading.specs.Making.{Reader, Judged, Room, Handled, stops, holds, fitted, handled, closing, judged, judged-last}
+use Rattle.reading.specs.Judging.{bares, one, written, textWritten}
 use Rattle.reading.specs.Reading.{Read, before, readWith, roomOf, entities}
 use Rattle.reading.specs.declared.state.State.{State}
 use Rattle.reading.specs.declared.state.Step.{Step}
@@ -158,6 +158,81 @@ enteredGroups brings groups = if brings then 1 ∷ groups else groups
 
 unfoldable pub leadOf : (brings : Bool) → ℕ
 leadOf brings = if brings then 6 else 0
+
+-- The state in which a token is written: where it brings a begin group, that is held and open.
+unfoldable pub ledBy : (brings : Bool) → State → State
+ledBy brings s =
+    if brings
+    then record { mode = 0; depth = s .depth + 1; entities = s .entities + 1; text = s .text }
+    else s
+
+-- the begin group that a token brings is written, or none
+pub record Leads (brings : Bool) (s : State) (list groups : List ℕ) (place : ℕ) (r : Step) (list′ groups′ : List ℕ) : Type 0 where
+  pub shallow : brings ≡ true → s .depth < 64
+  pub is : r ≡ record { number = 0; state = ledBy brings s }
+  pub list-is : list′ ≡ written list (s .entities) (s .text) (bares (leadOf brings) place)
+  pub array : length groups′ ≡ 64
+  pub opens : openGroups groups′ (enteredBy brings s .depth) ≡ enteredGroups brings (openGroups groups (s .depth))
+
+-- Before a token with `size` bytes of text and data is written: 17, 18 or 19 with nothing written; or there is room for all of it, and the
+-- begin group that it brings is written.
+pub data Roomed (s : State) (list text groups : List ℕ) (place size : ℕ) (r : Step) (list′ groups′ : List ℕ) : Type 0 where
+  crowded :
+      (eqb (s .mode) 1 && leb 64 (s .depth)) ≡ true → r ≡ record { number = 17; state = s } → list′ ≡ list
+      → Roomed s list text groups place size r list′ groups′
+  full :
+      (eqb (s .mode) 1 ≡ true → s .depth < 64) → length list - 6 * s .entities < 6 * (one (leadOf (eqb (s .mode) 1)) + 1)
+      → r ≡ record { number = 18; state = s } → list′ ≡ list → Roomed s list text groups place size r list′ groups′
+  long :
+      (eqb (s .mode) 1 ≡ true → s .depth < 64) → 6 * (one (leadOf (eqb (s .mode) 1)) + 1) ≤ length list - 6 * s .entities
+      → length text - s .text < size → r ≡ record { number = 19; state = s } → list′ ≡ list
+      → Roomed s list text groups place size r list′ groups′
+  roomy :
+      Leads (eqb (s .mode) 1) s list groups place r list′ groups′
+      → 6 * (one (leadOf (eqb (s .mode) 1)) + 1) ≤ length list - 6 * s .entities → size ≤ length text - s .text
+      → Roomed s list text groups place size r list′ groups′
+
+-- whether a token alone brings a begin group
+abbrev pub bringsBy : (mode c : ℕ) → Bool
+bringsBy mode c = eqb mode 1 && not (eqb c 0x5D)
+
+-- what such a token is refused with by its own rules, with that group open, or 0; and how many entities it then has
+unfoldable pub refusedBehind : (c depth : ℕ) → ℕ
+refusedBehind c depth =
+    if eqb c 0x29 then 14
+    else if eqb c 0x3B then 11
+    else if eqb c 0x28 then if leb 64 (depth + 1) then 17 else 0
+    else 0
+
+unfoldable pub ownBehind : (c : ℕ) → ℕ
+ownBehind c = if eqb c 0x5B then 0 else if eqb c 0x2C then 2 else 1
+
+-- what a token alone did, against what Making says of it
+abbrev pub Told : (c : ℕ) → State → (list groups : List ℕ) → (place : ℕ) → Took → (list′ groups′ : List ℕ) → Type 0
+Told c s list groups place took list′ groups′ =
+    (T text : List ℕ) → getD T 0 0 ≡ c → Ready s list text groups place
+    → agrees
+    (handled limits (roomLeft s list text) (readerOf s groups) (closingAs 0 T) place (λ q. judgedAs 0 q place T []))
+    took
+    s
+    list
+    text
+    list′
+    text
+    groups′
+    place
+
+-- Before a token alone is ruled: it is refused for the begin group that it brings, or behind it; or nothing can refuse it any more where it
+-- brings one, and that is written.
+pub data Led (c : ℕ) (s : State) (list groups : List ℕ) (place : ℕ) (r : Step) (list′ groups′ : List ℕ) : Type 0 where
+  refused :
+      (n : ℕ) → (n ≡ 0 → ⊥) → r ≡ record { number = n; state = s } → Told c s list groups place (Stops n s) list′ groups′
+      → Led c s list groups place r list′ groups′
+  leads :
+      Leads (bringsBy (s .mode) c) s list groups place r list′ groups′
+      → (bringsBy (s .mode) c ≡ true
+      → (refusedBehind c (s .depth) ≡ 0) × (6 * (s .entities + 1 + ownBehind c) ≤ length list))
+      → Led c s list groups place r list′ groups′
 
 -- What is read so far: entities that both buffers hold, and behind them `x` is still to be read.
 pub record SoFar (draft list₀ text₀ list text groups : List ℕ) (s : State) (at : ℕ) (x : Read) : Type 0 where

@@ -38,5 +38,5 @@ pub fn last(list: &mut [u32], groups: &[u32], s: State, place: usize) -> Step
     if 0 < depth {
         return stops(13, s);
     }
-    one(list, s, 0, 17, place, mode, depth)
+    one(list, s, 17, place, mode, depth)
 }

@@ -9,18 +9,12 @@ use crate::state::State;
 use crate::state::Step;
 
 // `%` in regular mode.
-pub fn metacommand_begins(
-    list: &mut [u32],
-    groups: &[u32],
-    s: State,
-    lead: u32,
-    place: usize,
-) -> Step
-    requires { ⌜ (lead ≤ 17) × (eqb (s .mode) 2 ≡ false) × (place < 16384) × Steady s (now list) (now groups) place ⌝ }
-    ensures { λ r. ⌜ Ruled 0x25 lead s (now (list .entry)) (now (groups .entry)) place r (now (list .exit)) (now (groups .entry)) ⌝ }
+pub fn metacommand_begins(list: &mut [u32], groups: &[u32], s: State, place: usize) -> Step
+    requires { ⌜ (eqb (s .mode) 2 ≡ false) × (place < 16384) × Steady s (now list) (now groups) place ⌝ }
+    ensures { λ r. ⌜ Ruled 0x25 0 s (now (list .entry)) (now (groups .entry)) place r (now (list .exit)) (now (groups .entry)) ⌝ }
 {
     let depth = s.depth;
-    one(list, s, lead, 1, place, 2, depth)
+    one(list, s, 1, place, 2, depth)
 }
 
 // `;` in a metacommand.
@@ -29,5 +23,5 @@ pub fn metacommand_ends(list: &mut [u32], groups: &[u32], s: State, place: usize
     ensures { λ r. ⌜ Ruled 0x3B 0 s (now (list .entry)) (now (groups .entry)) place r (now (list .exit)) (now (groups .entry)) ⌝ }
 {
     let depth = s.depth;
-    one(list, s, 0, 2, place, 0, depth)
+    one(list, s, 2, place, 0, depth)
 }

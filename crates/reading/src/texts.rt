@@ -1,6 +1,6 @@
 // Tokens with text: words and strings, and in a metacommand every token but % and ; (Shastina Specification, sections 5.1 and 5.4 to 5.7).
 ghost use mathlib.Core.Path.{_≡_};
-ghost use mathlib.Core.Bool.{true, false};
+ghost use mathlib.Core.Bool.{true};
 ghost use mathlib.Core.List.{List, [], _∷_};
 ghost use Prim.Native.Nat.{ℕ, _+_, _-_, _<_, _≤_, _^_};
 ghost use lib.Dec.{eqb};
@@ -8,37 +8,61 @@ ghost use lib.ListN.{getD};
 ghost use Rattle.chars.specs.Limits.{limits as base};
 ghost use Rattle.chars.specs.Stream.{streamAt, clean};
 ghost use Rattle.holding.specs.Text.{unchanged};
-ghost use Rattle.reading.specs.Making.{fitted, handled, makes};
-ghost use Rattle.reading.specs.Judging.{bares, cut as cutBy, kindOf, wordKind, textKind, cutOf, cutFrom, cutLength};
-ghost use Rattle.reading.specs.Stepping.{Contents, Ready, Spare, roomLeft, readerOf, agrees, took, judgedAs, closingAs};
-ghost use Rattle.reading.specs.Stepping.{worded};
-use crate::bare::bare;
-use crate::bare::count;
+ghost use Rattle.reading.specs.Making.{handled};
+ghost use Rattle.reading.specs.Judging.{wordKind, textKind, cutOf, cutFrom, cutLength};
+ghost use Rattle.reading.specs.Stepping.{Contents, Ready, roomLeft, readerOf, agrees, took, judgedAs, closingAs, worded, Roomed};
 use crate::bare::goes;
 use crate::bare::stops;
-use crate::brought::crowded;
-use crate::brought::enter;
-use crate::brought::lead;
+use crate::brought::begin_group;
 use crate::state::State;
 use crate::state::Step;
+use chars::limits;
 use holding::rows::row;
 use holding::text::as_it_stands;
 use holding::text::fill;
 use scan::Piece;
 
-// The kind of a word by its first byte: numbers, names by their sign, and else operations.
+// The kind of a word by its first byte: numbers, names by their sign, and else operations. Letters are told first, since most words begin
+// with one.
 fn word_kind(c: u8) -> u32
     ensures { λ r. ⌜ (r ≡ wordKind c) × (9 ≤ r) × (r ≤ 16) ⌝ }
 {
-    match c {
-        b'+' | b'-' => 9,
-        b'0' | b'1' | b'2' | b'3' | b'4' | b'5' | b'6' | b'7' | b'8' | b'9' => 9,
-        b'?' => 12,
-        b'@' => 13,
-        b'=' => 14,
-        b':' => 15,
-        _ => 16,
+    if b'@' <= c {
+        if c == b'@' {
+            return 13;
+        }
+        return 16;
     }
+    if c < b':' {
+        return number_kind(c);
+    }
+    if c == b'=' {
+        return 14;
+    }
+    if c == b'?' {
+        return 12;
+    }
+    if c == b':' {
+        return 15;
+    }
+    16
+}
+
+// The same of a byte below `:`: + - and digits begin a number.
+fn number_kind(c: u8) -> u32
+    requires { ⌜ c < 0x3A ⌝ }
+    ensures { λ r. ⌜ (r ≡ wordKind c) × (9 ≤ r) × (r ≤ 16) ⌝ }
+{
+    if b'0' <= c {
+        return 9;
+    }
+    if c == b'-' {
+        return 9;
+    }
+    if c == b'+' {
+        return 9;
+    }
+    16
 }
 
 // The kind of a token: 0 is a simple one, 1 a quoted string, 2 a curly one.
@@ -69,65 +93,49 @@ fn sign(kind: u32) -> usize
     0
 }
 
-// A token that its rules allow: 18 or 19 where its entity does not fit behind an inserted begin group (`lead` is 6, or 0 for none), else
-// both are written.
-fn hold(
-    draft: &[u8],
+// Before a token with text and data of `size` bytes is written: 17 for the begin group that it brings, 18 where its entity or the group does
+// not fit, 19 where its bytes do not; else the group is written.
+fn room(
     list: &mut [u32],
-    text: &mut [u8],
+    text: &[u8],
+    groups: &mut [u32],
     s: State,
-    lead: u32,
-    kind: u32,
-    p: Piece,
+    place: usize,
+    size: usize,
 ) -> Step
-    requires { ⌜ (lead ≤ 17) × (1 ≤ kind) × (kind ≤ 17) × (p .place < 16384) × (p .prefix ≤ 4096) × (p .bytes ≤ 4096)
-        × (p .from < p .after) × (cutOf kind ≡ 2 → 1 ≤ p .prefix) × Contents (now draft) (p .place) (p .prefix) (p .from) (p .bytes)
-        × Spare s (now list) (now text) (p .place) × unchanged (now draft) (p .from) (p .bytes) (p .after - p .from - 1) ⌝ }
-    ensures { λ r. ⌜ ((groups : List ℕ) → Ready s (now (list .entry)) (now (text .entry)) groups (p .place)
-        → agrees (fitted (roomLeft s (now (list .entry)) (now (text .entry))) (bares lead (p .place)) (makes (record {
-          kind = kindOf kind;
-          place = p .place;
-          text = cutBy (cutOf kind) (clean (p .prefix) (streamAt (now (draft .entry)) (p .place)));
-          string = clean (p .bytes) (streamAt (now (draft .entry)) (p .from));
-          count = 0;
-        } ∷ []) (readerOf s groups))) (took r) s (now (list .entry)) (now (text .entry)) (now (list .exit)) (now (text .exit)) groups
-        (p .place)) ⌝ }
+    requires { ⌜ (place < 16384) × Ready s (now list) (now text) (now groups) place ⌝ }
+    ensures { λ r. ⌜ Roomed s (now (list .entry)) (now (text .entry)) (now (groups .entry)) place size r (now (list .exit))
+        (now (groups .exit)) ⌝ }
 {
-    let entities = s.entities;
-    let used = s.text;
-    let place = p.place;
-    let bytes = p.bytes;
-    let cut = sign(kind);
-    let size = p.prefix - cut;
-    if list.len() - 6 * entities < 6 * (count(lead) + 1) {
+    let mode = s.mode;
+    let numbers = list.len() - 6 * s.entities;
+    let bytes = text.len() - s.text;
+    if mode != 1 {
+        if numbers < 6 {
+            return stops(18, s);
+        }
+        if bytes < size {
+            return stops(19, s);
+        }
+        return Step {
+            number: 0,
+            state: s,
+        };
+    }
+    if limits::GROUPS <= s.depth {
+        return stops(17, s);
+    }
+    if numbers < 12 {
         return stops(18, s);
     }
-    if text.len() - used < size + bytes {
+    if bytes < size {
         return stops(19, s);
     }
-    let held = bare(list, entities, used, lead, place);
-    row(
-        list,
-        held * 6,
-        kind,
-        place as u32,
-        used as u32,
-        size as u32,
-        bytes as u32,
-        0,
-    );
-    as_it_stands(draft, place + cut, size, text, used);
-    if bytes != 0 {
-        let from = p.from;
-        let raw = p.after - from - 1;
-        fill(draft, from, bytes, raw, text, used + size);
-    }
-    let mode = s.mode;
-    let depth = s.depth;
-    goes(mode, depth, held + 1, used + size + bytes)
+    let state = begin_group(list, groups, s, place);
+    Step { number: 0, state }
 }
 
-// A token with text: 17 for the begin group that it brings comes first.
+// A token with text, a string or any other that is no word.
 pub fn take(
     draft: &[u8],
     list: &mut [u32],
@@ -148,14 +156,78 @@ pub fn take(
         (now (list .exit)) (now (text .exit)) (now (groups .exit)) (p .place) ⌝ }
 {
     let mode = s.mode;
-    let depth = s.depth;
-    let brings = mode == 1;
-    if crowded(brings, depth) {
-        return stops(17, s);
-    }
-    let inner = enter(groups, s, brings);
     let place = p.place;
-    let metacommand = mode == 2;
-    let k = kind(p.sort, draft[place], metacommand);
-    hold(draft, list, text, inner, lead(brings), k, p)
+    let bytes = p.bytes;
+    let k = kind(p.sort, draft[place], mode == 2);
+    let cut = sign(k);
+    let size = p.prefix - cut;
+    let b = room(list, text, groups, s, place, size + bytes);
+    let number = b.number;
+    let inner = b.state;
+    if number != 0 {
+        return stops(number, s);
+    }
+    let used = s.text;
+    let held = inner.entities;
+    row(
+        list,
+        held * 6,
+        k,
+        place as u32,
+        used as u32,
+        size as u32,
+        bytes as u32,
+        0,
+    );
+    as_it_stands(draft, place + cut, size, text, used);
+    if bytes != 0 {
+        let from = p.from;
+        let raw = p.after - from - 1;
+        fill(draft, from, bytes, raw, text, used + size);
+    }
+    goes(inner.mode, inner.depth, held + 1, used + size + bytes)
+}
+
+// A word of `length` bytes whose first is `c`.
+pub fn take_word(
+    draft: &[u8],
+    list: &mut [u32],
+    text: &mut [u8],
+    groups: &mut [u32],
+    s: State,
+    c: u8,
+    place: usize,
+    length: usize,
+) -> Step
+    requires { ⌜ (c ≡ getD (now draft) place 0) × (worded (eqb (s .mode) 2) c ≡ true) × (1 ≤ length) × (length ≤ 4096) × (place < 16384)
+        × Contents (now draft) place length 0 0 × Ready s (now list) (now text) (now groups) place ⌝ }
+    ensures { λ r. ⌜ agrees (handled base (roomLeft s (now (list .entry)) (now (text .entry))) (readerOf s (now (groups .entry)))
+        (closingAs 0 (clean length (streamAt (now (draft .entry)) place))) place
+        (λ q. judgedAs 0 q place (clean length (streamAt (now (draft .entry)) place)) (clean 0 (streamAt (now (draft .entry)) 0))))
+        (took r) s (now (list .entry)) (now (text .entry)) (now (list .exit)) (now (text .exit)) (now (groups .exit)) place ⌝ }
+{
+    let mode = s.mode;
+    let k = kind(0, c, mode == 2);
+    let cut = sign(k);
+    let size = length - cut;
+    let b = room(list, text, groups, s, place, size);
+    let number = b.number;
+    let inner = b.state;
+    if number != 0 {
+        return stops(number, s);
+    }
+    let used = s.text;
+    let held = inner.entities;
+    row(
+        list,
+        held * 6,
+        k,
+        place as u32,
+        used as u32,
+        size as u32,
+        0,
+        0,
+    );
+    as_it_stands(draft, place + cut, size, text, used);
+    goes(inner.mode, inner.depth, held + 1, used + size)
 }

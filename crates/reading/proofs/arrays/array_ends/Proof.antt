@@ -15,8 +15,8 @@ returns : tie.Need-returns
 returns c =
     let a = c .before .before .before .before .before .before .before .args in
     let p = c .before .before .before .before .before .before .before .pre in
-    closes-empty (a .s) (a .list .now) (a .groups .now) (a .place) (a .lead) (c .before .before .one .result)
-    (c .before .before .one .last .0) (p .3) (p .1) (c .before .before .before .before .if1 .taken) (c .before .before .one .ensures)
+    closes-empty (a .s) (a .list .now) (a .groups .now) (a .place) (c .before .before .one .result)
+    (c .before .before .one .last .0) (p .2) (p .0) (c .before .before .before .before .if1 .taken) (c .before .before .one .ensures)
 
 top-requires : tie.Need-top-requires
 top-requires c κs = search needs
@@ -29,7 +29,7 @@ returns-2 c =
     let a = c .before .before .before .before .before .before .args in
     let p = c .before .before .before .before .before .before .pre in
     let after-top = c .before .before .top in
-    closes-refused (a .s) (a .list .now) (a .groups .now) (a .place) (a .lead) (c .stops .result) (a .list .now) (p .3) (p .1)
+    closes-refused (a .s) (a .list .now) (a .groups .now) (a .place) (c .stops .result) (a .list .now) (p .2) (p .0)
     (after-top .result) (c .before .before .before .if1 .left) (after-top .ensures) (c .before .if2 .taken) (c .stops .ensures)
 
 sub-two : tie.Need-sub-two
@@ -49,8 +49,8 @@ returns-3 c =
     let a = c .before .before .before .before .before .before .before .before .before .args in
     let p = c .before .before .before .before .before .before .before .before .before .pre in
     let after-top = c .before .before .before .before .before .top in
-    closes-allowed (a .s) (a .list .now) (a .groups .now) (a .place) (a .lead) (c .before .before .two .result)
-    (c .before .before .two .last .0) (p .3) (p .1) (after-top .result) (c .before .before .before .before .before .before .if1 .left)
+    closes-allowed (a .s) (a .list .now) (a .groups .now) (a .place) (c .before .before .two .result)
+    (c .before .before .two .last .0) (p .2) (p .0) (after-top .result) (c .before .before .before .before .before .before .if1 .left)
     (after-top .ensures) (c .before .before .before .before .if2 .left) (c .before .before .two .ensures)
 
 pub array-ends-spec : {M : Type 1} → statement M

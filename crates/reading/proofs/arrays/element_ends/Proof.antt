@@ -22,7 +22,7 @@ returns c =
     let a = c .before .before .before .before .before .before .args in
     let p = c .before .before .before .before .before .before .pre in
     let after-top = c .before .before .top in
-    next-refused (a .s) (a .list .now) (a .groups .now) (a .place) (a .lead) (c .stops .result) (a .list .now) (p .3) (p .1) _
+    next-refused (a .s) (a .list .now) (a .groups .now) (a .place) (c .stops .result) (a .list .now) (p .2) (p .0) _
     (after-top .result) (after-top .ensures) (c .before .if1 .taken) (c .stops .ensures)
 
 add-groups : tie.Need-add-groups
@@ -30,7 +30,7 @@ add-groups c =
     let a = c .before .before .before .before .before .args in
     let p = c .before .before .before .before .before .pre in
     let after-top = c .before .top in
-    omega (arith, p .2, small-top (a .groups .now) (a .s .depth) (after-top .result) (a .place + 1) (after-top .ensures) (p .3 .numbers))
+    omega (arith, p .1, small-top (a .groups .now) (a .s .depth) (after-top .result) (a .place + 1) (after-top .ensures) (p .2 .numbers))
 
 sub-groups : tie.Need-sub-groups
 sub-groups c =
@@ -58,8 +58,8 @@ returns-2 c =
     let a = c .before .before .before .before .before .before .before .before .before .args in
     let p = c .before .before .before .before .before .before .before .before .before .pre in
     let after-top = c .before .before .before .before .before .top in
-    next-allowed (a .s) (a .list .now) (a .groups .now) (a .place) (a .lead) (c .before .before .two .result)
-    (c .before .before .two .last .0) (p .3) (p .1) _ (after-top .result) (after-top .ensures)
+    next-allowed (a .s) (a .list .now) (a .groups .now) (a .place) (c .before .before .two .result)
+    (c .before .before .two .last .0) (p .2) (p .0) _ (after-top .result) (after-top .ensures)
     (c .before .before .before .before .if1 .left) refl (c .before .before .two .ensures)
 
 pub element-ends-spec : {M : Type 1} → statement M

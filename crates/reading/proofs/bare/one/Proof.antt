@@ -1,12 +1,10 @@
--- `reading::bare::one` meets its contract: it asks whether the entities fit, and writes one behind the other where they do. Assumes
--- nothing.
+-- `reading::bare::one` meets its contract: it asks whether the entity fits, and writes it where it does. Assumes nothing.
 use mathlib.Core.Path.{refl}
-use mathlib.Core.List.{[], _∷_, _++_}
+use mathlib.Core.List.{[], _∷_}
 use Prim.Native.Nat.{_+_}
 use native.Mathlib.Omega.{arith}
-use Rattle.reading.specs.Judging.{bares, counting, one}
-use Rattle.reading.proofs.Shortages.{bare-one, one-small}
-use Rattle.reading.proofs.Rows.{stopped, went, led-count, one-row}
+use Rattle.reading.specs.Judging.{counting}
+use Rattle.reading.proofs.Rows.{stopped, went, one-row}
 use borrow.Author.Needs.{needs}
 use Rattle.reading.proofs.bare.one.Statement.{statement}
 use Rattle.reading.proofs.bare.one.Tie as tie
@@ -17,54 +15,17 @@ mul-if1 c = search needs
 sub-if1 : tie.Need-sub-if1
 sub-if1 c = search needs
 
-count-requires : tie.Need-count-requires
-count-requires c κs = search needs
-
-add-if1 : tie.Need-add-if1
-add-if1 c =
-    omega (arith, c .count .ensures, one-small (c .before .before .args .lead))
-
-mul-if1-2 : tie.Need-mul-if1-2
-mul-if1-2 c =
-    omega (arith, c .count .ensures, one-small (c .before .before .args .lead))
-
 stops-requires : tie.Need-stops-requires
 stops-requires c κs = search needs
 
 returns : tie.Need-returns
 returns c =
-    let a = c .before .before .before .before .args in
-    let p = c .before .before .before .before .pre in
-    let es = counting (a .kind) (a .place) 0 ∷ [] in
-    stopped (a .s) (a .list .now) (bares (a .lead) (a .place) ++ es) (a .mode) (a .depth) (a .list .now) (c .stops .result)
-    (one (a .lead) + 1)
-    (led-count (a .lead) (a .place) es) (p .3) (omega (arith, c .before .before .count .ensures, c .before .if1 .taken))
-    (c .stops .ensures) refl
-
-bare-requires : tie.Need-bare-requires
-bare-requires c κs =
-    let a = c .before .before .before .before .args in
-    let p = c .before .before .before .before .pre in (
-      p .0,
-      omega (arith, bare-one (a .lead) (a .place), c .before .before .count .ensures, c .before .if1 .left, p .3),
-      omega (arith, p .4),
-      omega (arith, p .4, p .5),
-    )
+    let a = c .before .before .before .args in
+    stopped (a .s) (a .list .now) (counting (a .kind) (a .place) 0 ∷ []) (a .mode) (a .depth) (a .list .now) (c .stops .result) 1 refl
+    (c .before .before .before .pre .2) (omega (arith, c .before .if1 .taken)) (c .stops .ensures) refl
 
 mul-row : tie.Need-mul-row
-mul-row c =
-    let a = c .before .before .before .before .before .before .before .before .args in
-    let led = c .before .before .before .bare in
-    omega (
-      arith,
-      led .ensures .0,
-      led .kept,
-      bare-one (a .lead) (a .place),
-      one-small (a .lead),
-      c .before .before .before .before .before .before .count .ensures,
-      c .before .before .before .before .before .if1 .left,
-      c .before .before .before .before .before .before .before .before .pre .3,
-    )
+mul-row c = search needs
 
 cast-row : tie.Need-cast-row
 cast-row c = search needs
@@ -73,34 +34,10 @@ cast-row-2 : tie.Need-cast-row-2
 cast-row-2 c = search needs
 
 row-requires : tie.Need-row-requires
-row-requires c κs =
-    let a = c .before .before .before .before .before .before .before .before .args in
-    let led = c .before .before .before .bare in
-    omega (
-      arith,
-      led .ensures .0,
-      led .kept,
-      bare-one (a .lead) (a .place),
-      one-small (a .lead),
-      c .before .before .before .before .before .before .count .ensures,
-      c .before .before .before .before .before .if1 .left,
-      c .before .before .before .before .before .before .before .before .pre .3,
-    )
+row-requires c κs = search needs
 
 add-goes : tie.Need-add-goes
-add-goes c =
-    let a = c .before .before .before .before .before .before .before .before .before .before .before .args in
-    let led = c .before .before .before .before .before .before .bare in
-    omega (
-      arith,
-      led .ensures .0,
-      led .kept,
-      bare-one (a .lead) (a .place),
-      one-small (a .lead),
-      c .before .before .before .before .before .before .before .before .before .count .ensures,
-      c .before .before .before .before .before .before .before .before .if1 .left,
-      c .before .before .before .before .before .before .before .before .before .before .before .pre .3,
-    )
+add-goes c = search needs
 
 goes-requires : tie.Need-goes-requires
 goes-requires c κs = search needs
@@ -110,19 +47,12 @@ same-length c = search needs
 
 returns-2 : tie.Need-returns-2
 returns-2 c =
-    let a = c .before .before .before .before .before .before .before .before .before .before .before .before .args in
-    let p = c .before .before .before .before .before .before .before .before .before .before .before .before .pre in
-    let led = c .before .before .before .before .before .before .before .bare in
+    let a = c .before .before .before .before .before .before .before .args in
+    let p = c .before .before .before .before .before .before .before .pre in
     let row = c .before .before .before .row in
-    let count = c .before .before .before .before .before .before .before .before .before .before .count in
-    let enough = c .before .before .before .before .before .before .before .before .before .if1 .left in
-    let es = counting (a .kind) (a .place) 0 ∷ [] in
-    went (a .s) (a .list .now) (bares (a .lead) (a .place) ++ es) (a .mode) (a .depth) (row .last .0) (c .goes .result) (one (a .lead) + 1)
-    (led .result + 1) (led-count (a .lead) (a .place) es) (p .3) (omega (arith, count .ensures, enough))
-    (omega (arith, led .ensures .0, bare-one (a .lead) (a .place)))
-    (one-row (a .list .now) (a .s .entities) (a .s .text) (a .lead) (a .place) (led .result) (led .last .0) (led .ensures .0)
-    (led .ensures .1)
-    (omega (arith, count .ensures, enough, bare-one (a .lead) (a .place), p .3)) (a .kind) 0 (row .last .0) (p .1) (p .2) (row .ensures))
+    went (a .s) (a .list .now) (counting (a .kind) (a .place) 0 ∷ []) (a .mode) (a .depth) (row .last .0) (c .goes .result) 1
+    (a .s .entities + 1) refl (p .2) (omega (arith, c .before .before .before .before .before .if1 .left)) refl
+    (one-row (a .list .now) (a .s .entities) (a .s .text) (a .place) (row .last .0) (a .kind) 0 (p .0) (p .1) (row .ensures))
     (c .goes .ensures)
 
 pub one-spec : {M : Type 1} → statement M
@@ -131,12 +61,8 @@ one-spec =
     (tie.spec
     mul-if1
     sub-if1
-    count-requires
-    add-if1
-    mul-if1-2
     stops-requires
     returns
-    bare-requires
     mul-row
     cast-row
     cast-row-2

@@ -13,7 +13,7 @@ returns : tie.Need-returns
 returns c =
     let a = c .before .before .before .before .args in
     let p = c .before .before .before .before .pre in
-    begins-refused (a .s) (a .list .now) (a .groups .now) (a .place) (a .lead) (c .stops .result) (a .list .now) (p .3) (p .1) _
+    begins-refused (a .s) (a .list .now) (a .groups .now) (a .place) (c .stops .result) (a .list .now) (p .2) (p .0) _
     (c .before .if1 .taken) (c .stops .ensures)
 
 push-requires : tie.Need-push-requires
@@ -36,10 +36,10 @@ returns-2 c =
     let a = c .before .before .before .before .before .before .before .before .before .before .before .args in
     let p = c .before .before .before .before .before .before .before .before .before .before .before .pre in
     let after-push = c .before .before .before .before .before .before .push in
-    begins-allowed (a .s) (a .list .now) (a .groups .now) (a .place) (a .lead) (c .before .before .one .result)
-    (c .before .before .one .last .0) (p .3) (p .1) (after-push .last .0)
+    begins-allowed (a .s) (a .list .now) (a .groups .now) (a .place) (c .before .before .one .result)
+    (c .before .before .one .last .0) (p .2) (p .0) (after-push .last .0)
     (c .before .before .before .before .before .before .before .before .if1 .left) (after-push .ensures)
-    (omega (arith, after-push .kept, p .3 .array)) (c .before .before .one .ensures)
+    (omega (arith, after-push .kept, p .2 .array)) (c .before .before .one .ensures)
 
 pub group-begins-spec : {M : Type 1} → statement M
 group-begins-spec =

@@ -12,7 +12,7 @@ returns : tie.Need-returns
 returns c =
     let a = c .before .before .before .before .args in
     let p = c .before .before .before .before .pre in
-    ends-none (a .s) (a .list .now) (a .groups .now) (a .place) (a .lead) (c .stops .result) (a .list .now) (p .3) (p .1) _
+    ends-none (a .s) (a .list .now) (a .groups .now) (a .place) (c .stops .result) (a .list .now) (p .2) (p .0) _
     (c .before .if1 .taken) (c .stops .ensures)
 
 top-requires : tie.Need-top-requires
@@ -29,7 +29,7 @@ returns-2 c =
     let a = c .before .before .before .before .before .before .before .args in
     let p = c .before .before .before .before .before .before .before .pre in
     let after-top = c .before .before .top in
-    ends-refused (a .s) (a .list .now) (a .groups .now) (a .place) (a .lead) (c .stops2 .result) (a .list .now) (p .3) (p .1) _
+    ends-refused (a .s) (a .list .now) (a .groups .now) (a .place) (c .stops2 .result) (a .list .now) (p .2) (p .0) _
     (after-top .result) (after-top .ensures) (c .before .if2 .taken) (c .stops2 .ensures)
 
 sub-one : tie.Need-sub-one
@@ -49,8 +49,8 @@ returns-3 c =
     let a = c .before .before .before .before .before .before .before .before .before .before .args in
     let p = c .before .before .before .before .before .before .before .before .before .before .pre in
     let after-top = c .before .before .before .before .before .top in
-    ends-allowed (a .s) (a .list .now) (a .groups .now) (a .place) (a .lead) (c .before .before .one .result)
-    (c .before .before .one .last .0) (p .3) (p .1) (after-top .result) (after-top .ensures) (c .before .before .before .before .if2 .left)
+    ends-allowed (a .s) (a .list .now) (a .groups .now) (a .place) (c .before .before .one .result)
+    (c .before .before .one .last .0) (p .2) (p .0) (after-top .result) (after-top .ensures) (c .before .before .before .before .if2 .left)
     (c .before .before .before .before .before .before .before .if1 .left) (c .before .before .one .ensures)
 
 pub group-ends-spec : {M : Type 1} → statement M

@@ -14,8 +14,8 @@ returns : tie.Need-returns
 returns c =
     let a = c .before .before .before .before .before .before .args in
     let p = c .before .before .before .before .before .before .pre in
-    command-begins (a .s) (a .list .now) (a .groups .now) (a .place) (a .lead) (c .before .before .one .result)
-    (c .before .before .one .last .0) (p .3) (p .1) (c .before .before .one .ensures)
+    command-begins (a .s) (a .list .now) (a .groups .now) (a .place) (c .before .before .one .result)
+    (c .before .before .one .last .0) (p .2) (p .0) (c .before .before .one .ensures)
 
 pub metacommand-begins-spec : {M : Type 1} → statement M
 metacommand-begins-spec = tie.close (tie.spec one-requires same-length returns)

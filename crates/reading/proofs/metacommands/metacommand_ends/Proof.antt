@@ -14,7 +14,7 @@ returns : tie.Need-returns
 returns c =
     let a = c .before .before .before .before .before .before .args in
     let p = c .before .before .before .before .before .before .pre in
-    command-ends (a .s) (a .list .now) (a .groups .now) (a .place) 0 (c .before .before .one .result) (c .before .before .one .last .0)
+    command-ends (a .s) (a .list .now) (a .groups .now) (a .place) (c .before .before .one .result) (c .before .before .one .last .0)
     (p .2) (p .0) (c .before .before .one .ensures)
 
 pub metacommand-ends-spec : {M : Type 1} → statement M
