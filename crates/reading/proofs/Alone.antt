@@ -2,7 +2,7 @@
 -- ruled of one behind the begin group that it brings is told of the state before. The last token is refused with anything open.
 use mathlib.Core.Path.{_≡_, refl, sym, _∙_}
 use mathlib.Core.Bool.{Bool, true, false, not, _&&_, _||_}
-use mathlib.Core.List.{List, [], _∷_, _++_}
+use mathlib.Core.List.{List, [], _∷_}
 use Prim.Native.Nat.{ℕ, _+_, _-_, _*_, _<_, _≤_, _/_}
 use native.Mathlib.Omega.{arith}
 use lib.Dec.{leb, ltb, eqb}
@@ -68,12 +68,6 @@ module _ (lead : ℕ) (s : State) (list groups : List ℕ) (place : ℕ) (c : �
   unfolding Ruled took agrees judgedAs judged regular readerOf fitted
   stray e regularly r is T text first ready = rw (is, regularly, first, e) (refl, refl, refl, refl, refl)
 
--- regular mode is regular with the group open
-pub regular-entered : (b : Bool) (s : State) → eqb (s .mode) 2 ≡ false → eqb (enteredBy b s .mode) 2 ≡ false
-unfolding enteredBy
-regular-entered true s h = refl
-regular-entered false s h = h
-
 -- room for the group
 pub roomy-enough :
     (b : Bool) (s : State) (list : List ℕ) → 6 * s .entities ≤ length list → (b && ltb (length list - 6 * s .entities) 6) ≡ false → b ≡ true
@@ -93,21 +87,7 @@ module _ (s : State) (list groups : List ℕ) (place c : ℕ) (b : Bool) (e : b 
       (handled limits (roomLeft s list text) (readerOf s groups) (closingAs 0 T) place (λ q. judgedAs 0 q place T []))
       (took r) s list text list′ text groups′ place
 
-  pub told-17 : (r : Step) → r ≡ record { number = 17; state = s } → (b && leb 64 (s .depth)) ≡ true → Told r list groups
-  unfolding took
-  told-17 r is t T text first ready =
-      rw is (too-many s list text groups place (closingAs 0 T) (λ q. judgedAs 0 q place T []) (rw (brings-here T first) t) groups)
-
   module _ (shallow : b ≡ true → s .depth < 64) where
-    pub told-18 :
-        (r : Step) → r ≡ record { number = 18; state = s } → (b && ltb (length list - 6 * s .entities) 6) ≡ true → Told r list groups
-    unfolding took
-    told-18 r is t T text first ready =
-        let same = brings-here T first in
-        rw is
-        (no-room s list text groups place (closingAs 0 T) (λ q. judgedAs 0 q place T []) (λ u. shallow (sym same ∙ u)) (ready .held)
-        (rw same t) groups)
-
     pub told :
         (b && ltb (length list - 6 * s .entities) 6) ≡ false → (inner : State) → inner ≡ enteredBy b s → (pushed : List ℕ)
         → length pushed ≡ 64 → openGroups pushed (inner .depth) ≡ enteredGroups b (openGroups groups (s .depth)) → (lead : ℕ)

@@ -13,7 +13,7 @@ use Rattle.chars.specs.Limits.{limits}
 use Rattle.chars.proofs.Cases.{either, both}
 use Rattle.reading.specs.Making.{Reader, Judged, Handled, stops, holds, fitted, handled, within-groups}
 use Rattle.reading.specs.Judging.{bares, kindOf}
-use Rattle.reading.specs.Stepping.{Ready, Steady, Spare, openGroups, below, roomLeft, readerOf, agrees, Took, Goes, Stops}
+use Rattle.reading.specs.Stepping.{Ready, openGroups, below, roomLeft, readerOf, agrees, Took, Goes, Stops}
 use Rattle.reading.specs.Stepping.{enteredBy, enteredGroups, leadOf}
 use Rattle.reading.specs.declared.state.State.{State}
 use Rattle.reading.proofs.OpenGroups.{so-many}
@@ -117,29 +117,6 @@ module _ (brings : Bool) (s : State) (list text groups : List ℕ) (place : ℕ)
           numbers = numbers-entered (ready .numbers);
         }
 
-    pub steady-entered : Steady s list groups place → Steady (enteredBy brings s) list pushed place
-    steady-entered ready =
-        record {
-          deep = deep-entered (ready .deep);
-          array = long;
-          held = omega (arith, ready .held, entities-entered);
-          small = omega (arith, ready .small, text-entered);
-          numbers = numbers-entered (ready .numbers);
-        }
-
-  pub spare-entered : Ready s list text groups place → Spare (enteredBy brings s) list text place
-  spare-entered ready =
-      record {
-        held = omega (arith, ready .held, entities-entered);
-        used = omega (arith, ready .used, text-entered);
-        small = omega (arith, ready .small, text-entered);
-      }
-
 -- a group that is not one too many
 pub not-crowded : (brings : Bool) (depth : ℕ) → (brings && leb 64 depth) ≡ false → brings ≡ true → depth < 64
 not-crowded brings depth f t = leb-false 64 depth (rw t at f)
-
-pub lead-kind : (brings : Bool) → leadOf brings ≤ 17
-unfolding leadOf
-lead-kind true = omega arith
-lead-kind false = omega arith

@@ -1,27 +1,25 @@
 -- A token alone behind `[` brings a begin group, which is written before the token is ruled: all that can refuse the token there is known by
 -- its byte, so that nothing does once the group is written, and what the token then does is told of the state before both.
 use mathlib.Core.Path.{_≡_, refl, sym, _∙_, ap}
-use mathlib.Core.Bool.{Bool, true, false, not, _&&_, _||_, true≢false}
+use mathlib.Core.Bool.{Bool, true, false, not, _&&_, true≢false}
 use mathlib.Core.List.{List, [], _∷_, _++_}
 use Prim.Native.Nat.{ℕ, suc, _+_, _-_, _*_, _<_, _≤_, _/_}
 use native.Mathlib.Omega.{arith}
 use lib.Dec.{eqb, leb, ltb}
 use lib.ListN.{length, getD, length-append}
-use borrow.Author.Tests.{eq-eqb, ne-eqb, eqb-true, lt-ltb, le-ltb, le-leb, leb-true, leb-false, not-true}
-use Rattle.chars.specs.Choice.{if_then_else_}
-use Rattle.chars.specs.Limits.{limits}
+use borrow.Author.Tests.{ne-eqb, eqb-true, lt-ltb, le-ltb, le-leb, leb-true, leb-false, not-true}
 use Rattle.chars.proofs.Cases.{either, both}
 use Rattle.reading.specs.Entity.{Entity, bare, sizes}
-use Rattle.reading.specs.Making.{Reader, Room, Judged, refuses, makes, Handled, stops, holds, fitted, handled, within-groups, shortage}
+use Rattle.reading.specs.Making.{Reader, Room, Judged, refuses, makes, holds, fitted, handled, within-groups, shortage}
 use Rattle.reading.specs.Making.{group-begins, group-ends, element-ends, regular, judged, closing}
-use Rattle.reading.specs.Judging.{bares, one, kindOf, written, textWritten}
+use Rattle.reading.specs.Judging.{bares, one, kindOf, written}
 use Rattle.reading.specs.Stepping.{Ready, Steady, openGroups, below, roomLeft, readerOf, agrees, Took, Goes, Stops, took, judgedAs, closingAs, Ruled}
 use Rattle.reading.specs.Stepping.{enteredBy, enteredGroups, leadOf, ledBy, Leads, Led, refused, leads, bringsBy, refusedBehind, ownBehind, Told, structural}
 use Rattle.reading.specs.declared.state.State.{State}
 use Rattle.reading.specs.declared.state.Step.{Step}
 use Rattle.reading.proofs.OpenGroups.{so-many}
-use Rattle.reading.proofs.Listing.{written-none, written-length, sizes-append}
-use Rattle.reading.proofs.Cutting.{bare-first, bare-text, bare-sizes}
+use Rattle.reading.proofs.Listing.{written-none, written-length}
+use Rattle.reading.proofs.Cutting.{bare-first, bare-text}
 use Rattle.reading.proofs.Shortages.{bare-one}
 use Rattle.reading.proofs.Fitting.{Empty, nothing, more, empty-bares, empty-sizes, empty-short, stopped, went}
 use Rattle.reading.proofs.Entering.{too-many, no-room}

@@ -1,11 +1,11 @@
 -- A token with text, from the room for it to its entity: what refuses it before anything is written is what counting finds short, and behind the
 -- begin group that it brings, or none, its six numbers and its bytes are its entity.
 use mathlib.Core.Path.{_≡_, refl, sym, _∙_, ap}
-use mathlib.Core.Bool.{Bool, true, false, _&&_}
+use mathlib.Core.Bool.{Bool, true, false}
 use mathlib.Core.List.{List, [], _∷_, _++_}
 use Prim.Native.Nat.{ℕ, _+_, _-_, _*_, _<_, _≤_}
 use native.Mathlib.Omega.{arith}
-use lib.Dec.{eqb, leb}
+use lib.Dec.{eqb}
 use lib.ListN.{length, getD, take, drop, set, length-set}
 use borrow.Author.Tests.{eq-eqb, ne-eqb, eqb-true, le-leb}
 use Rattle.chars.specs.Limits.{limits}
@@ -243,10 +243,10 @@ module _ (s : State) (list text groups : List ℕ) (place size : ℕ) where
       long-bare few r is = long (λ t. absurd (out (eqb-true (s .mode) 1 t))) (rw (ne-eqb (s .mode) 1 out) enough) few is refl
 
   pub roomy-bare :
-      (s .mode ≡ 1 → ⊥) → (groups′ : List ℕ) → 6 ≤ length list - 6 * s .entities → size ≤ length text - s .text → length groups ≡ 64
+      (s .mode ≡ 1 → ⊥) → 6 ≤ length list - 6 * s .entities → size ≤ length text - s .text → length groups ≡ 64
       → Roomed s list text groups place size (record { number = 0; state = s }) list groups
   unfolding leadOf one bares ledBy enteredBy enteredGroups
-  roomy-bare out groups′ enough free array =
+  roomy-bare out enough free array =
       let f = ne-eqb (s .mode) 1 out in
       roomy
       (record {

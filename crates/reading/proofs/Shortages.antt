@@ -67,7 +67,3 @@ bare-one kind place =
     either (eqb kind 0)
     (λ k. rw k (ap length (no-bare kind place (eqb-true kind 0 k))))
     (λ k. rw k (ap length (one-bare kind place (eqb-false kind 0 k))))
-
-pub one-small : (kind : ℕ) → one kind ≤ 1
-unfolding one
-one-small kind = either (eqb kind 0) (λ k. rw k (omega arith)) (λ k. rw k (omega arith))

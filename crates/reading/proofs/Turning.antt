@@ -3,7 +3,7 @@
 use mathlib.Core.Path.{_≡_, refl, sym, _∙_, ap}
 use mathlib.Core.Bool.{Bool, true, false, not, _||_, true≢false}
 use mathlib.Core.List.{List, []}
-use Prim.Native.Nat.{ℕ, _+_, _<_, _≤_}
+use Prim.Native.Nat.{ℕ, _+_, _-_, _<_, _≤_}
 use native.Mathlib.Omega.{arith}
 use lib.Dec.{eqb}
 use lib.ListN.{length, getD}
@@ -18,7 +18,7 @@ use Rattle.tokens.specs.Tokens.{tokens, between, tokenAt}
 use Rattle.tokens.specs.declared.Token.{Token}
 use Rattle.tokens.specs.declared.Token.the-variants.{Simple, Quoted, Curly, Last, Refused}
 use Rattle.tokens.proofs.Copying.{clean-zero}
-use Rattle.scan.specs.Bytes.{beginsOf}
+use Rattle.scan.specs.Bytes.{beginsOf, beginsAt}
 use Rattle.scan.specs.Found.{pieceOf, Finds, passes, tells}
 use Rattle.scan.specs.declared.Piece.{Piece}
 use Rattle.scan.proofs.Starts.{blank-byte, alone-other}
@@ -26,7 +26,7 @@ use Rattle.reading.specs.Entity.{sizes}
 use Rattle.reading.specs.Making.{fitted, handled, judged, command}
 use Rattle.reading.specs.Judging.{bares}
 use Rattle.reading.specs.Reading.{Read, refusal, before, entities}
-use Rattle.reading.specs.Stepping.{Ready, Steady, openGroups, roomLeft, readerOf, agrees, Took, Goes, Stops, judgedAs, closingAs}
+use Rattle.reading.specs.Stepping.{Contents, Ready, Steady, openGroups, roomLeft, readerOf, agrees, Took, Goes, Stops, judgedAs, closingAs}
 use Rattle.reading.specs.Stepping.{structural, worded, ahead}
 use Rattle.reading.specs.Rounds.{goesRound, On, Over, behindOf}
 use Rattle.reading.specs.declared.state.State.{State}
@@ -75,6 +75,33 @@ module _ (draft list text groups : List ℕ) (s : State) (at : ℕ) (there : at 
 
   pub blank-on : beginsOf (getD draft at 0) ≡ 1 → goesRound draft list text groups s at (On s (at + 1)) list text groups
   blank-on e = passed-on (at + 1) (omega arith) (blank-byte draft at there e)
+
+  -- a simple token up to `i`
+  module _ (i : ℕ) (simple : tokenAt limits draft at ≡ Simple at i (i - at)) where
+    abbrev word : Piece
+    word = pieceOf (Simple at i (i - at))
+
+    word-is : word ≡ pieceOf (tokenAt limits draft at)
+    word-is = ap pieceOf (sym simple)
+
+    word-some : word .sort ≡ 4 → ⊥
+    unfolding pieceOf
+    word-some e = omega arith
+
+    pub word-taken : (i - at ≤ 4096) × Contents draft at (i - at) 0 0
+    unfolding pieceOf
+    word-taken = let t = here draft list text groups s at word word-is word-some in (t .short, t .contents)
+
+    pub word-on :
+        (r : Took) (list′ text′ groups′ : List ℕ)
+        → agrees
+        (handled limits (roomLeft s list text) (readerOf s groups) (closingAs 0 (clean (i - at) (streamAt draft at))) at
+        (λ q. judgedAs 0 q at (clean (i - at) (streamAt draft at)) (clean 0 (streamAt draft 0)))) r s list text list′ text′ groups′ at
+        → length list′ ≡ length list → length text′ ≡ length text
+        → goesRound draft list text groups s at (behindOf r at i) list′ text′ groups′
+    unfolding pieceOf
+    word-on r list′ text′ groups′ a l u =
+        behind-here draft list text groups s at word word-is word-some list′ text′ groups′ r a l u (λ e. omega arith)
 
   -- a token alone
   module _ (three : beginsOf (getD draft at 0) ≡ 3) where
@@ -145,6 +172,11 @@ command-begins = refl
 command-ends : eqb (beginsOf 0x3B) 3 ≡ true
 unfolding beginsOf visible white atomic inclusive
 command-ends = refl
+
+-- What a byte begins, by what stands at its place: `|` alone is told by the byte behind it.
+pub at-three : (draft : List ℕ) (at : ℕ) → beginsOf (getD draft at 0) ≡ 3 → beginsAt draft at ≡ 3
+unfolding beginsAt
+at-three draft at e = rw e
 
 -- A byte that begins neither a token alone, nor, in a metacommand, `%` or `;`, begins one with text.
 pub with-text :

@@ -75,12 +75,6 @@ pub record Steady (s : State) (list groups : List ℕ) (at : ℕ) : Type 0 where
   pub small : s .text ≤ 8192 * at
   pub numbers : below (openGroups groups (s .depth)) (at + 1)
 
--- the same, but for the open groups
-pub record Spare (s : State) (list text : List ℕ) (at : ℕ) : Type 0 where
-  pub held : 6 * s .entities ≤ length list
-  pub used : s .text ≤ length text
-  pub small : s .text ≤ 8192 * at
-
 -- what one token came to, as the code has it: the state behind it, or a number of refusal and a state that holds as much as before
 pub data Took : Type 0 where
   Goes : State → Took

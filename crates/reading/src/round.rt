@@ -2,7 +2,8 @@
 ghost use mathlib.Core.Path.{_≡_};
 ghost use Prim.Native.Nat.{_≤_, _<_};
 ghost use lib.ListN.{length, getD};
-ghost use Rattle.scan.specs.Bytes.{beginsOf};
+ghost use Rattle.scan.specs.Bytes.{beginsAt};
+ghost use Rattle.scan.specs.Opens.{Ended as EndedBy};
 ghost use Rattle.reading.specs.Stepping.{Ready, took};
 ghost use Rattle.reading.specs.Rounds.{goesRound, turn, behindOf, endedOf};
 use crate::last::last;
@@ -11,6 +12,8 @@ use crate::state::State;
 use crate::state::Step;
 use crate::structure::structure;
 use crate::texts::take;
+use crate::texts::take_word;
+use scan::word::Ended;
 
 // What a round comes to. All are numbers of one width, as in state.rt.
 pub struct Round {
@@ -80,7 +83,7 @@ fn ended(step: Step, place: usize, after: usize) -> Round
     }
 }
 
-// A comment, a string, a word or `|;`.
+// A comment, a string, `|;`, or what no straight way knows.
 fn piece(
     draft: &[u8],
     list: &mut [u32],
@@ -89,14 +92,16 @@ fn piece(
     s: State,
     at: usize,
     begins: u32,
+    e: Ended,
 ) -> Round
     requires { ⌜ (length (now draft) ≤ 16384) × Ready s (now list) (now text) (now groups) at × (at < length (now draft))
-        × (begins ≡ beginsOf (getD (now draft) at 0))
-        × (begins ≡ 3 → (s .mode ≡ 2) × (getD (now draft) at 0 ≡ 0x25 → ⊥) × (getD (now draft) at 0 ≡ 0x3B → ⊥)) ⌝ }
+        × (begins ≡ beginsAt (now draft) at)
+        × (begins ≡ 3 → (s .mode ≡ 2) × (getD (now draft) at 0 ≡ 0x25 → ⊥) × (getD (now draft) at 0 ≡ 0x3B → ⊥))
+        × EndedBy (now draft) at (e .at) (e .how) ⌝ }
     ensures { λ r. ⌜ goesRound (now (draft .entry)) (now (list .entry)) (now (text .entry)) (now (groups .entry)) s at (turn r)
         (now (list .exit)) (now (text .exit)) (now (groups .exit)) ⌝ }
 {
-    let p = scan::found(draft, at, begins);
+    let p = scan::found(draft, at, begins, e);
     let sort = p.sort;
     let place = p.place;
     let after = p.after;
@@ -129,7 +134,7 @@ pub fn go_round(
         return over(7, draft.len(), s);
     }
     let b = draft[at];
-    let begins = scan::byte::begins(b);
+    let begins = scan::begins_at(draft, at);
     if begins == 1 {
         return on(s, at + 1);
     }
@@ -145,5 +150,15 @@ pub fn go_round(
             return behind(metacommand_ends(list, groups, s, at), at, at + 1);
         }
     }
-    piece(draft, list, text, groups, s, at, begins)
+    let e = scan::worded(draft, at, begins);
+    let how = e.how;
+    let i = e.at;
+    if how == 1 {
+        return behind(
+            take_word(draft, list, text, groups, s, b, at, i - at),
+            at,
+            i,
+        );
+    }
+    piece(draft, list, text, groups, s, at, begins, e)
 }

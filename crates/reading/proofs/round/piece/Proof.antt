@@ -11,7 +11,7 @@ use Rattle.chars.specs.Limits.{limits}
 use Rattle.reading.specs.Stepping.{judgedAs, closingAs, sorted}
 use Rattle.reading.specs.Rounds.{turn}
 use Rattle.reading.proofs.Walking.{here, refused-here, behind-here, ended-here, later}
-use Rattle.reading.proofs.Turning.{steady, passed-on, with-text, Token-found, blank-found, token-found}
+use Rattle.reading.proofs.Turning.{steady, passed-on, at-three, with-text, Token-found, blank-found, token-found}
 use Rattle.reading.proofs.round.piece.Statement.{statement}
 use Rattle.reading.proofs.round.piece.Tie as tie
 
@@ -98,7 +98,7 @@ take-requires c κs =
     let k = token-found (a .draft .now) (a .at) (f .result) (f .ensures) (c .before .before .before .before .before .if1 .left) in
     let t = here (a .draft .now) (a .list .now) (a .text .now) (a .groups .now) (a .s) (a .at) (f .result) (k .is) some in (
       omega (arith, k .few, some, c .before .before .before .if3 .left),
-      λ e. rw (k .begun some) (with-text _ (a .s .mode) (rw (p .3) at (p .4))),
+      λ e. rw (k .begun some) (with-text _ (a .s .mode) (λ three. p .4 (p .3 ∙ at-three (a .draft .now) (a .at) three))),
       λ e. (t .sorts .0 e, t .sorts .1 (λ z. omega arith) (λ z. omega arith)),
       omega (arith, t .on, t .there, p .0),
       t .short,

@@ -34,7 +34,7 @@ returns-2 c =
 returns-3 : tie.Need-returns-3
 returns-3 c =
     let a = c .before .before .before .before .before .before .before .before .args in
-    roomy-bare (a .s) (a .list .now) (a .text .now) (a .groups .now) (a .place) (a .size) (c .before .before .if1 .taken) (a .groups .now) (c .before .if2 .left) (c .if3 .left) (c .before .before .before .before .before .before .before .before .pre .1 .array)
+    roomy-bare (a .s) (a .list .now) (a .text .now) (a .groups .now) (a .place) (a .size) (c .before .before .if1 .taken) (c .before .if2 .left) (c .if3 .left) (c .before .before .before .before .before .before .before .before .pre .1 .array)
 
 stops-requires-3 : tie.Need-stops-requires-3
 stops-requires-3 c κs = search needs
