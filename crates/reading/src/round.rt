@@ -154,11 +154,8 @@ pub fn go_round(
     let how = e.how;
     let i = e.at;
     if how == 1 {
-        return behind(
-            take_word(draft, list, text, groups, s, b, at, i - at),
-            at,
-            i,
-        );
+        let step = take_word(draft, list, text, groups, s, b, at, i - at);
+        return behind(step, at, i);
     }
     piece(draft, list, text, groups, s, at, begins, e)
 }
