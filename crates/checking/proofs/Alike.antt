@@ -2,12 +2,11 @@
 -- but what was read. So drafts that agree through an accepted `|;`, and more room than is needed, change nothing.
 use Prim.Native.Nat.{ℕ, _*_, _/_, _≤_}
 use mathlib.Core.Path.{_≡_, refl, sym, _∙_, ap}
-use mathlib.Core.List.{List, _++_}
+use mathlib.Core.List.{List}
 use mathlib.Core.Option.{none, some}
 use native.Mathlib.Omega.{arith}
 use lib.Dec.{eqb}
 use lib.ListN.{length, take}
-use lib.Seq.{take-at}
 use contract.Lifetimes.{Lfts}
 use borrow.Author.Tests.{ne-eqb}
 use borrow.Fn.World.{ArgsD, ResD}
@@ -15,9 +14,8 @@ use borrow.Fn.Kinds.{endedOf}
 use denote.Triple.Clauses.{AtExit}
 use Rattle.chars.specs.Limits.{limits}
 use Rattle.chars.proofs.Cases.{either}
-use Rattle.reading.specs.Entity.{sizes, texts, rows}
-use Rattle.reading.specs.Reading.{Read, Reading, reading, readWith, roomOf, answered}
-use Rattle.reading.proofs.Listing.{rows-length, texts-length}
+use Rattle.reading.specs.Reading.{Read, reading, readWith, roomOf, answered}
+use Rattle.reading.proofs.Alike.{Alike, answered-alike}
 use Rattle.reading.proofs.Roomier.{Other, read-roomier}
 use Rattle.reading.proofs.Through as Through
 use Rattle.table.specs.Table.{Operation, operations}
@@ -28,26 +26,14 @@ use Rattle.checking.proofs.check as check
 use Rattle.checking.proofs.check.Kinds as kinds
 use Rattle.checking.proofs.check.Reads as reads
 
--- the same answer, and the same held at the front of each buffer
-pub record Alike (c d : Reading) : Type 0 where
-  pub answers : d .answer ≡ c .answer
-  pub lists : take (6 * c .answer .entities) (d .list) ≡ take (6 * c .answer .entities) (c .list)
-  pub texts-held : take (c .answer .text) (d .text) ≡ take (c .answer .text) (c .text)
-
--- what is held stands at the front, whatever is behind it
-front : (held : List ℕ) (n : ℕ) → length held ≡ n → (rest rest′ : List ℕ) → take n (held ++ rest′) ≡ take n (held ++ rest)
-front held n h rest rest′ = take-at held rest′ n h ∙ sym (take-at held rest n h)
-
 module _ (os : List Operation) (list text list′ text′ : List ℕ) (r : Read) where
   same-completed : Alike (completed limits os list text r) (completed limits os list′ text′ r)
   unfolding completed checked answered
   same-completed =
-      let es = r .entities in
-      let lists = front (rows 0 es) (6 * length es) (rows-length 0 es) _ _ in
-      let held = front (texts es) (sizes es) (texts-length es) _ _ in
+      let same = answered-alike list text list′ text′ r in
       either (eqb (r .number) 0)
-      (λ t. rw (t, completed) (record { answers = refl; lists = lists; texts-held = held }))
-      (λ t. rw (t, completed) (record { answers = refl; lists = lists; texts-held = held }))
+      (λ t. rw (t, completed) (record { answers = refl; lists = same .lists; texts-held = same .texts-held }))
+      (λ t. rw (t, completed) same)
 
 module _ (draft draft′ list text list′ text′ table : List ℕ) where
   same-unsound : operations limits table ≡ none → Alike (checking limits draft list text table) (checking limits draft′ list′ text′ table)

@@ -15,6 +15,7 @@ use Rattle.chars.specs.Stream.{start}
 use Rattle.reading.specs.Entity.{Entity, sizes, texts, rows}
 use Rattle.reading.specs.Reading.{reading, readWith, roomOf, answered}
 use Rattle.reading.specs.WellMade.{well-made}
+use Rattle.reading.proofs.Alike.{Alike}
 use Rattle.reading.proofs.Held.{Fits, read-fits}
 use Rattle.reading.proofs.Places.{Ordered, in-places, before-refusal}
 use Rattle.reading.proofs.Closed.{closed}
@@ -70,35 +71,45 @@ module _ (κs : Lfts 3) (given : ArgsD read.signature κs) (a : ResD read.signat
 module _ (κs : Lfts 3) (given : ArgsD read.signature κs) (a : ResD read.signature κs) (x : AtExit (endedOf 3 kinds.ps kinds.r) κs)
     (κs′ : Lfts 3) (given′ : ArgsD read.signature κs′) (b : ResD read.signature κs′) (y : AtExit (endedOf 3 kinds.ps kinds.r) κs′)
     (p : reads.Post κs given a x) (q : reads.Post κs′ given′ b y) where
-  -- drafts that agree through an accepted `|;`, the second within the length limit, with the same buffers
+  abbrev draft : List ℕ
+  draft = given .0 .now
+
+  abbrev draft′ : List ℕ
+  draft′ = given′ .0 .now
+
+  abbrev list : List ℕ
+  list = given .1 .0 .now
+
+  abbrev list′ : List ℕ
+  list′ = given′ .1 .0 .now
+
+  abbrev text : List ℕ
+  text = given .1 .1 .0 .now
+
+  abbrev text′ : List ℕ
+  text′ = given′ .1 .1 .0 .now
+
+  -- the same answer, and the same held at the front of each buffer
+  abbrev Same : Type 0
+  Same =
+      (b ≡ a)
+      × (take (6 * a .entities) (y .1 .0 .now) ≡ take (6 * a .entities) (x .1 .0 .now))
+      × (take (a .text) (y .1 .1 .0 .now) ≡ take (a .text) (x .1 .1 .0 .now))
+
+  of-calls : Alike (reading limits draft list text) (reading limits draft′ list′ text′) → Same
+  of-calls s = rw (q .0, q .1 .0, q .1 .1, p .0, p .1 .0, p .1 .1) (s .answers, s .lists, s .texts-held)
+
+  -- drafts that agree through an accepted `|;`, the second within the length limit, with equal room
   pub through :
-      given′ .1 .0 .now ≡ given .1 .0 .now → given′ .1 .1 .0 .now ≡ given .1 .1 .0 .now → length (given′ .0 .now) ≤ limits .draft
-      → a .number ≡ 0 → take (a .consumed) (given .0 .now) ≡ take (a .consumed) (given′ .0 .now)
-      → (b ≡ a) × (y .1 .0 .now ≡ x .1 .0 .now) × (y .1 .1 .0 .now ≡ x .1 .1 .0 .now)
-  through same-list same-text there z alike =
-      let e =
-      read-through limits (given .0 .now) (given′ .0 .now) (a .consumed) there alike (given .1 .0 .now) (given .1 .1 .0 .now)
+      length list′ / 6 ≡ length list / 6 → length text′ ≡ length text → length draft′ ≤ limits .draft → a .number ≡ 0
+      → take (a .consumed) draft ≡ take (a .consumed) draft′ → Same
+  through rooms long there z alike =
+      of-calls (read-through limits draft draft′ (a .consumed) there alike list text list′ text′ rooms long
       (sym (ap (λ r. r .number) (p .0)) ∙ z)
-      (sym (ap (λ r. r .consumed) (p .0))) in
-      let same :
-      reading limits (given′ .0 .now) (given′ .1 .0 .now) (given′ .1 .1 .0 .now)
-      ≡ reading limits (given .0 .now) (given .1 .0 .now) (given .1 .1 .0 .now) =
-      rw (same-list, same-text) e in (
-        q .0 ∙ ap (λ r. r .answer) same ∙ sym (p .0),
-        q .1 .0 ∙ ap (λ r. r .list) same ∙ sym (p .1 .0),
-        q .1 .1 ∙ ap (λ r. r .text) same
-            ∙ sym (p .1 .1),
-      )
+      (sym (ap (λ r. r .consumed) (p .0))))
 
   -- the same draft with no less room, where the first call has room enough
   pub roomier :
-      given′ .0 .now ≡ given .0 .now → length (given .1 .0 .now) / 6 ≤ length (given′ .1 .0 .now) / 6
-      → length (given .1 .1 .0 .now) ≤ length (given′ .1 .1 .0 .now) → Other (a .number)
-      → (b ≡ a)
-      × (take (6 * a .entities) (y .1 .0 .now) ≡ take (6 * a .entities) (x .1 .0 .now))
-      × (take (a .text) (y .1 .1 .0 .now) ≡ take (a .text) (x .1 .1 .0 .now))
+      draft′ ≡ draft → length list / 6 ≤ length list′ / 6 → length text ≤ length text′ → Other (a .number) → Same
   roomier same more longer o =
-      let alike =
-      reading-roomier limits (given .0 .now) (given .1 .0 .now) (given .1 .1 .0 .now) (given′ .1 .0 .now) (given′ .1 .1 .0 .now) more longer
-      (rw (← p .0) o) in
-      rw (q .0, q .1 .0, q .1 .1, p .0, p .1 .0, p .1 .1, same) alike
+      of-calls (rw same (reading-roomier limits draft list text list′ text′ more longer (rw (← p .0) o)))

@@ -24,6 +24,7 @@ pub mod Numbers
 pub mod Places
 pub mod Through
 pub mod Within
+pub mod Alike
 pub mod Roomier
 pub mod TextOf
 pub mod CleanText

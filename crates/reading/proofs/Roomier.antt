@@ -6,8 +6,7 @@ use mathlib.Core.List.{List, [], _∷_, _++_}
 use Prim.Native.Nat.{ℕ, _-_, _*_, _/_, _≤_}
 use native.Mathlib.Omega.{arith}
 use lib.Dec.{ltb, eqb}
-use lib.ListN.{length, take}
-use lib.Seq.{take-append-seam}
+use lib.ListN.{length}
 use borrow.Author.Tests.{eq-eqb, ne-eqb, le-ltb, ltb-false, eqb-true, eqb-false}
 use Rattle.chars.specs.Limits.{Limits}
 use Rattle.chars.specs.Stream.{start, streamAt}
@@ -18,7 +17,7 @@ use Rattle.reading.specs.Making.{Reader, fresh, closing, Judged, refuses
 use Rattle.reading.specs.Making.{Room, shortage, Handled, stops, holds, fitted, handled}
 use Rattle.reading.specs.Reading.{Read, refusal, before, taken, success, textOf, stringOf, entities, readWith}
 use Rattle.reading.specs.Reading.{answered, roomOf, reading}
-use Rattle.reading.proofs.Listing.{texts-length, rows-length}
+use Rattle.reading.proofs.Alike.{Alike, reading-alike}
 
 -- a number that tells of no want of room
 pub record Other (n : ℕ) : Type 0 where
@@ -133,36 +132,12 @@ read-roomier L draft room room′ m =
     (λ t. rw t (λ o. refl))
     (λ t. rw t (entities-grown L draft room room′ fresh (tokens L between (streamAt draft (start draft))) m))
 
--- what was read stands at the front of each buffer
-front :
-    (list text : List ℕ) (r : Read)
-    → (take (6 * length (r .entities)) (answered list text r .list) ≡ rows 0 (r .entities))
-    × (take (sizes (r .entities)) (answered list text r .text) ≡ texts (r .entities))
-unfolding answered
-front list text r =
-    let es = r .entities in
-    (rw (← rows-length 0 es) (take-append-seam (rows 0 es) _), rw (← texts-length es) (take-append-seam (texts es) _))
-
 -- so the call, with larger buffers, has the same answer, and holds the same
 module _ (L : Limits) (draft list text list′ text′ : List ℕ) (more : length list / 6 ≤ length list′ / 6)
     (longer : length text ≤ length text′) where
-  read-alike : Other (reading L draft list text .answer .number)
-      → readWith L (roomOf list′ text′) draft ≡ readWith L (roomOf list text) draft
-  unfolding reading answered roomOf
-  read-alike = read-roomier L draft (roomOf list text) (roomOf list′ text′) (record { more = more; longer = longer })
-
   pub reading-roomier :
-      Other (reading L draft list text .answer .number)
-      → (reading L draft list′ text′ .answer ≡ reading L draft list text .answer)
-      × (take (6 * reading L draft list text .answer .entities) (reading L draft list′ text′ .list)
-      ≡ take (6 * reading L draft list text .answer .entities) (reading L draft list text .list))
-      × (take (reading L draft list text .answer .text) (reading L draft list′ text′ .text)
-      ≡ take (reading L draft list text .answer .text) (reading L draft list text .text))
-  unfolding reading answered
+      Other (reading L draft list text .answer .number) → Alike (reading L draft list text) (reading L draft list′ text′)
+  unfolding reading answered roomOf
   reading-roomier o =
-      let r = readWith L (roomOf list text) draft in
-      rw (read-alike o) (
-        refl,
-        front list′ text′ r .0 ∙ sym (front list text r .0),
-        front list′ text′ r .1 ∙ sym (front list text r .1),
-      )
+      reading-alike list text list′ text′ L draft draft
+      (read-roomier L draft (roomOf list text) (roomOf list′ text′) (record { more = more; longer = longer }) o)

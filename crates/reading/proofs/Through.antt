@@ -3,7 +3,7 @@
 use mathlib.Core.Path.{_≡_, refl, sym, _∙_, ap}
 use mathlib.Core.Bool.{true, true≢false}
 use mathlib.Core.List.{List, [], _∷_}
-use Prim.Native.Nat.{ℕ, _<_, _≤_}
+use Prim.Native.Nat.{ℕ, _/_, _<_, _≤_}
 use native.Mathlib.Omega.{arith}
 use lib.Dec.{leb, ltb, eqb}
 use lib.ListN.{length, getD, take}
@@ -14,7 +14,7 @@ use Rattle.chars.specs.Choice.{same}
 use Rattle.chars.specs.Stream.{start, streamAt, mark}
 use Rattle.chars.proofs.Cases.{either, both, by-bound}
 use Rattle.tokens.specs.Tokens.{Tokens, token, last, refused, tokens, between, step, begins, follows}
-use Rattle.tokens.proofs.Agreed.{Ends, behind, Alike, agreed}
+use Rattle.tokens.proofs.Agreed.{Ends, behind, Alike as TokensAlike, agreed}
 use Rattle.tokens.proofs.Classes.{foreign}
 use Rattle.tokens.proofs.Refused.{Numbered, numbered}
 use Rattle.tokens.proofs.Skipping.{by-character, own-byte}
@@ -22,6 +22,7 @@ use Rattle.tokens.proofs.Spans.{fewer}
 use Rattle.reading.specs.Making.{Reader, fresh, Room, Handled, stops, holds}
 use Rattle.reading.specs.Reading.{Read, refusal, success, before, taken, textOf, stringOf, entities, readWith}
 use Rattle.reading.specs.Reading.{answered, roomOf, reading}
+use Rattle.reading.proofs.Alike.{Alike, reading-alike}
 use Rattle.reading.proofs.Handled.{Held, token-held, last-held}
 
 -- a token behind which a reading succeeds was held
@@ -54,7 +55,7 @@ taken-same place (holds es left r) f g e = ap (before es) (e left r)
 
 entities-same :
     (L : Limits) (d e : List ℕ) (c : ℕ) (same : take c d ≡ take c e) (room : Room) (r : Reader) (ts : Tokens)
-    → Alike L d e c same ts → entities L e room r ts ≡ entities L d room r ts
+    → TokensAlike L d e c same ts → entities L e room r ts ≡ entities L d room r ts
 unfolding entities textOf stringOf
 entities-same L d e c same room r (refused number place) a = refl
 entities-same L d e c same room r (last place after) a = refl
@@ -117,9 +118,11 @@ module _ (L : Limits) (d e : List ℕ) (c : ℕ) (there : length e ≤ L .draft)
       rw (start-same L d e c alike ends, both-same .0)
       (entities-same L d e c alike room fresh (tokens L between (streamAt d i)) (both-same .1))))
 
-  -- so the answer and both buffers are the same
+  -- so with equal room the answer is the same, and both buffers hold the same
   pub read-through :
-      (list text : List ℕ) → reading L d list text .answer .number ≡ 0 → reading L d list text .answer .consumed ≡ c
-      → reading L e list text ≡ reading L d list text
-  unfolding reading answered
-  read-through list text z is = ap (answered list text) (through (roomOf list text) z is)
+      (list text list′ text′ : List ℕ) → length list′ / 6 ≡ length list / 6 → length text′ ≡ length text
+      → reading L d list text .answer .number ≡ 0 → reading L d list text .answer .consumed ≡ c
+      → Alike (reading L d list text) (reading L e list′ text′)
+  unfolding reading answered roomOf
+  read-through list text list′ text′ rooms long z is =
+      reading-alike list text list′ text′ L d e (rw (rooms, long) (through (roomOf list text) z is))
