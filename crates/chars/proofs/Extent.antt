@@ -9,9 +9,9 @@ use native.Mathlib.Omega.{arith}
 use lib.Dec.{leb, ltb, eqb}
 use lib.ListN.{length, getD, drop}
 use lib.Seq.{drop-drop}
-use borrow.Author.Tests.{le-leb, leb-true, ltb-true, ltb-false, eqb-true, eqb-false, lt-ltb, le-ltb, ne-eqb}
+use borrow.Author.Tests.{le-leb, lt-leb, leb-true, ltb-true, ltb-false, eqb-true, eqb-false, lt-ltb, le-ltb, ne-eqb}
 use Rattle.chars.specs.Choice.{within}
-use Rattle.chars.specs.Character.{continued, sequence, lowest, highest, encoded}
+use Rattle.chars.specs.Character.{continued, sequence, lowest, highest, encoded, nearest}
 use Rattle.chars.specs.declared.Sequence.the-variants.{Whole, Malformed}
 use Rattle.chars.proofs.Sequences.{following}
 use Rattle.chars.proofs.Cases.{by-test, both, either, by-bound}
@@ -124,6 +124,22 @@ encoded-size n =
     (λ g l. rw (encoded-two n g l) (omega arith))
     (λ g l. rw (encoded-three n g l) (omega arith))
     (λ g. rw (encoded-four n g) (omega arith))
+
+-- a number that is re-encoded as itself, or as the last one
+pub nearest-own : (n : ℕ) → n < 0x110000 → nearest n ≡ n
+unfolding nearest
+nearest-own n h = rw (le-leb n 0x10FFFF (omega arith))
+
+pub nearest-last : (n : ℕ) → 0x110000 ≤ n → nearest n ≡ 0x10FFFF
+unfolding nearest
+nearest-last n g = rw (lt-leb n 0x10FFFF (omega arith))
+
+-- either way it takes as many bytes
+pub nearest-length : (n : ℕ) → length (encoded (nearest n)) ≡ length (encoded n)
+nearest-length n =
+    by-bound n 0x110000
+    (λ l. rw (nearest-own n l))
+    (λ g. rw (nearest-last n g, encoded-four 0x10FFFF (omega arith), encoded-four n (omega arith)))
 
 -- The range of the second byte, with the bits that the first byte gives: E0 and F0 leave no overlong form, F4 nothing above 10FFFF.
 pub lowest-least : (b : ℕ) → 0x80 ≤ lowest b

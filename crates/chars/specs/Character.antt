@@ -90,7 +90,11 @@ encoded n =
     else if ltb n 0x10000 then (0xE0 + n / 4096) ∷ (0x80 + n / 64 % 64) ∷ (0x80 + n % 64) ∷ []
     else (0xF0 + n / 262144) ∷ (0x80 + n / 4096 % 64) ∷ (0x80 + n / 64 % 64) ∷ (0x80 + n % 64) ∷ []
 
--- the same in four bytes, with zeros behind
+-- The character's number that a number is re-encoded as: its own, and 10FFFF, the last, for one above it, which is no character's.
+unfoldable pub nearest : (number : ℕ) → ℕ
+nearest n = if leb n 0x10FFFF then n else 0x10FFFF
+
+-- re-encoded bytes in four, with zeros behind
 unfoldable pub padded : List ℕ → List ℕ
 padded bytes = bytes ++ replicate (4 - length bytes) 0
 

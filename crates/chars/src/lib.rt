@@ -5,7 +5,7 @@ ghost use Prim.Native.Nat.{_+_, _-_, _*_, _^_, _<_, _≤_};
 ghost use lib.ListN.{length, take, drop, replicate};
 ghost use Rattle.chars.specs.Choice.{same};
 ghost use Rattle.chars.specs.Character.{continued as continuedBy, lowest, highest, sequence, paired as pairedBy, judged as judgedBy};
-ghost use Rattle.chars.specs.Character.{carriage, characterAt, encoded, padded};
+ghost use Rattle.chars.specs.Character.{carriage, characterAt, encoded, nearest, padded};
 ghost use Rattle.chars.specs.Stream.{start as startOf};
 
 pub mod limits;
@@ -234,7 +234,7 @@ fn byte(n: u32) -> u8
 }
 
 // A character re-encoded, by its number.
-pub fn encode(number: u32) -> Encoded
+fn coded(number: u32) -> Encoded
     requires { ⌜ number < 0x110000 ⌝ }
     ensures { λ r. ⌜ (r .bytes ≡ padded (encoded number)) × (r .length ≡ length (encoded number)) ⌝ }
 {
@@ -265,7 +265,17 @@ pub fn encode(number: u32) -> Encoded
     }
 }
 
-// How many bytes a character is re-encoded in.
+// The same for every number: one above 10FFFF is no character's, and is re-encoded as 10FFFF, the last.
+pub fn encode(number: u32) -> Encoded
+    ensures { λ r. ⌜ (r .bytes ≡ padded (encoded (nearest number))) × (r .length ≡ length (encoded (nearest number))) ⌝ }
+{
+    if 0x10FFFF < number {
+        return coded(0x10FFFF);
+    }
+    coded(number)
+}
+
+// How many bytes a number is re-encoded in.
 pub fn encoded_length(number: u32) -> usize
     ensures { λ r. ⌜ r ≡ length (encoded number) ⌝ }
 {

@@ -11,15 +11,15 @@ use lib.ListN.{length, getD, take, drop, set, length-append, length-drop, take-a
 use lib.Seq.{length-take-le, take-at, drop-at, set-split, drop-drop, take-append-seam, append-snoc, paste, paste-zero, paste-suc, getD-drop}
 use borrow.Author.Tests.{le-leb, lt-leb, le-ltb, lt-ltb}
 use Rattle.chars.specs.Choice.{if_then_else_}
-use Rattle.chars.specs.Character.{characterAt, encoded, padded}
+use Rattle.chars.specs.Character.{characterAt, encoded, nearest, padded}
 use Rattle.chars.specs.Stream.{Stream, next, stop, streamAt, clean}
 use Rattle.chars.specs.declared.Character.the-variants.{Clean}
-use Rattle.chars.proofs.Extent.{encoded-size, encoded-one}
+use Rattle.chars.proofs.Extent.{encoded-size, encoded-one, nearest-own}
 use Rattle.chars.proofs.Streams.{at-character, at-none}
 use Rattle.tokens.specs.Copy.{copied, copiedInto}
 use Rattle.tokens.proofs.Passing.{class-at}
 use Rattle.tokens.proofs.Classes.{low}
-use Rattle.tokens.proofs.Skipping.{alone-at}
+use Rattle.tokens.proofs.Skipping.{alone-at, scalar}
 use Rattle.tokens.specs.declared.copier.Copied.{Copied}
 use Rattle.tokens.specs.declared.copier.Copied.the-variants.{Whole, TooSmall}
 
@@ -160,8 +160,9 @@ module _ (draft : List ℕ) (from n : ℕ) (before : List ℕ) where
   -- a character that is re-encoded
   pub advance-coded :
       (out : List ℕ) (i k number after size : ℕ) (bytes : List ℕ) → Copying out i k → characterAt draft i ≡ Clean number after
-      → size ≡ length (encoded number) → size ≤ n - k → bytes ≡ padded (encoded number)
+      → size ≡ length (encoded number) → size ≤ n - k → bytes ≡ padded (encoded (nearest number))
       → Copying (paste out k bytes size) after (k + size)
   advance-coded out i k number after size bytes c e s h p =
-      let front : take size bytes ≡ encoded number = rw (s, p) (unpadded (encoded number)) in
+      let front : take size bytes ≡ encoded number =
+      rw (s, p, nearest-own number (scalar draft i number after e)) (unpadded (encoded number)) in
       rw s (advance out i k number after c e (omega arith) (paste out k bytes (length (encoded number))) (rw (← s, front)))

@@ -8,7 +8,6 @@ use mir.Val.{Fits}
 use mir.Syntax.{w64}
 use borrow.Author.Needs.{needs}
 use Rattle.chars.proofs.Extent.{encoded-size}
-use Rattle.tokens.proofs.Skipping.{scalar}
 use Rattle.tokens.proofs.Copying.{Copying, begun, advance-kept, advance-coded, finished, too-small}
 use Rattle.tokens.proofs.Copying.{clean-zero, clean-full, clean-none}
 use Rattle.tokens.proofs.copier.copy.Statement.{statement}
@@ -136,13 +135,7 @@ returns-4 c =
     (clean-full _ _ _ (g .0 .0) (g .0 .1 .0) is (omega (arith, c .before .encoded-length .ensures)))
 
 encode-requires : tie.Need-encode-requires Inv-loop μ-loop
-encode-requires c κs =
-    let h = c .before .before .before .before .before .before .before .before .before in
-    let g = c .before .before .before .number .given in
-    let is = sym (c .before .before .before .before .before .next .ensures) ∙ g .1 in
-    scalar (h .before .before .before .before .before .before .before .args .draft .now) (h .before .before .before .loop .i + h .kept
-    .result)
-    (g .0 .0) (g .0 .1 .0) is
+encode-requires c κs = search needs
 
 put-requires : tie.Need-put-requires Inv-loop μ-loop
 put-requires c κs =
