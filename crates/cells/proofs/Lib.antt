@@ -6,3 +6,4 @@ pub mod Operating
 pub mod Acting
 pub mod Going
 pub mod Keeping
+pub mod Unique

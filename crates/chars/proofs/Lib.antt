@@ -10,3 +10,5 @@ pub mod RoundTrip
 pub mod Locality
 pub mod Kept
 pub mod Refusals
+pub mod Only
+pub mod Unique

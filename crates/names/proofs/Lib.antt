@@ -6,3 +6,4 @@ pub mod Chunks
 pub mod Apart
 pub mod Entries
 pub mod Chains
+pub mod Unique

@@ -9,3 +9,4 @@ pub mod Words
 pub mod Starts
 pub mod Places
 pub mod Finding
+pub mod Unique

@@ -1,42 +1,25 @@
--- No second answer satisfies the contracts of step as the source has them: each says what the answer is, and that is one thing.
+-- No second answer meets the contract of a public call of `step`.
 use Prim.Native.Nat.{ℕ}
 use mathlib.Core.Path.{_≡_, refl, sym, _∙_, ap}
-use contract.Lifetimes.{Lfts}
-use borrow.Fn.World.{ArgsD, ResD}
-use borrow.Fn.Kinds.{endedOf}
 use denote.Ref.{RefT}
-use denote.Triple.Clauses.{AtExit}
+use Rattle.chars.proofs.Only.{one, OneAnswer}
 use Rattle.tokens.specs.Step.{onward}
 use Rattle.tokens.specs.declared.Token.{Token}
 use Rattle.step.specs.Stepping.{Gives}
 use Rattle.step.specs.declared.Opened.{Opened}
-use Rattle.step.proofs.step_at as step-at
-use Rattle.step.proofs.step_at.Kinds as step-at-kinds
-use Rattle.step.proofs.step_at.Reads as step-at-reads
-use Rattle.step.proofs.token as token
-use Rattle.step.proofs.token.Kinds as token-kinds
-use Rattle.step.proofs.token.Reads as token-reads
-use Rattle.step.proofs.onward as onwards
-use Rattle.step.proofs.onward.Kinds as onward-kinds
-use Rattle.step.proofs.onward.Reads as onward-reads
+use Rattle.step.proofs as fn
 
-pub step-at-unique :
-    (κs : Lfts 1) (given : ArgsD step-at.signature κs) (a b : ResD step-at.signature κs)
-    (x y : AtExit (endedOf 1 step-at-kinds.ps step-at-kinds.r) κs)
-    → step-at-reads.Post κs given a x → step-at-reads.Post κs given b y → a ≡ b
-step-at-unique κs given a b x y p q = p ∙ sym q
+pub step-at : OneAnswer fn.step_at.Kinds.ps fn.step_at.Kinds.r fn.step_at.Reads.Post
+step-at κs given a b x y = one
 
-pub token-unique :
-    (κs : Lfts 1) (given : ArgsD token.signature κs) (a b : ResD token.signature κs)
-    (x y : AtExit (endedOf 1 token-kinds.ps token-kinds.r) κs)
-    → token-reads.Post κs given a x → token-reads.Post κs given b y → a ≡ b
-token-unique κs given a b x y p q = p ∙ sym q
+pub by-opening : OneAnswer fn.by_opening.Kinds.ps fn.by_opening.Kinds.r fn.by_opening.Reads.Post
+by-opening κs given a b x y = one
 
-pub onward-unique :
-    (κs : Lfts 0) (given : ArgsD onwards.signature κs) (a b : ResD onwards.signature κs)
-    (x y : AtExit (endedOf 0 onward-kinds.ps onward-kinds.r) κs)
-    → onward-reads.Post κs given a x → onward-reads.Post κs given b y → a ≡ b
-onward-unique κs given a b x y p q = p ∙ sym q
+pub token : OneAnswer fn.token.Kinds.ps fn.token.Kinds.r fn.token.Reads.Post
+token κs given a b x y = one
+
+pub onwards : OneAnswer fn.onward.Kinds.ps fn.onward.Kinds.r fn.onward.Reads.Post
+onwards κs given a b x y = one
 
 same-opened : (o p : Opened) → o .draft ≡ p .draft → o .place ≡ p .place → o ≡ p
 same-opened o p d e = by-fields (o .draft) (o .place) d e
@@ -46,8 +29,12 @@ same-opened o p d e = by-fields (o .draft) (o .place) d e
         → _≡_ {A = Opened} (record { draft = draft; place = place }) p
     by-fields draft place d e = rw (d, e) refl
 
--- of a step, by the words of its contract: the token, and the opened draft behind it
-pub step-unique : (o after after′ : Opened) (t u : Token) → Gives o t after → Gives o u after′ → (t ≡ u) × (after ≡ after′)
-step-unique o after after′ t u p q =
-    let same = p .0 ∙ sym (q .0) in
-    (same, same-opened after after′ (p .1 ∙ sym (q .1)) (p .2 ∙ (ap (onward (o .place)) same ∙ sym (q .2))))
+-- of `open` and `step`, by the words of their contracts: the opened draft, and the token with the opened draft behind it
+pub opened :
+    (draft : RefT _) (a b : Opened) → (a .draft ≡ draft) × (a .place ≡ 0) → (b .draft ≡ draft) × (b .place ≡ 0) → a ≡ b
+opened draft a b p q = same-opened a b (one (p .0) (q .0)) (one (p .1) (q .1))
+
+pub step : (o after after′ : Opened) (t u : Token) → Gives o t after → Gives o u after′ → (t ≡ u) × (after ≡ after′)
+step o after after′ t u p q =
+    let same = one (p .0) (q .0) in
+    (same, same-opened after after′ (one (p .1) (q .1)) (p .2 ∙ (ap (onward (o .place)) same ∙ sym (q .2))))

@@ -7,3 +7,4 @@ pub mod Sound
 pub mod Last
 pub mod Finding
 pub mod Entering
+pub mod Unique

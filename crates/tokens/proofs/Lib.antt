@@ -16,3 +16,4 @@ pub mod Lengths
 pub mod Refused
 pub mod Spans
 pub mod Agreed
+pub mod Unique
