@@ -1,5 +1,6 @@
--- No second answer: what it means of a contract as the source states it, and the law that shows it where the contract is an equation. `ps` and `r`
--- are what a function takes and hands back, and `Post` its contract, of what is given, of the answer and of what the buffers hold at exit.
+-- No second answer: what it means of a contract as the source states it, and the law that shows it where the contract is an equation.
+-- `ps` and `r` are what a function takes and hands back, and `Post` its contract: of what is given, of the answer and of what the buffers
+-- hold at exit.
 use Prim.Native.Nat.{ℕ}
 use mathlib.Core.Path.{_≡_, refl, sym, _∙_}
 use mathlib.Core.List.{List, [], _∷_}

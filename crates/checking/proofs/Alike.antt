@@ -75,14 +75,14 @@ module _ (κs : Lfts 4) (given : ArgsD check.signature κs) (a : ResD check.sign
   abbrev table : List ℕ
   table = given .1 .1 .1 .0 .now
 
+  -- what the calls leave
   abbrev Same : Type 0
   Same =
-      (b ≡ a)
-      × (take (6 * a .entities) (y .1 .0 .now) ≡ take (6 * a .entities) (x .1 .0 .now))
-      × (take (a .text) (y .1 .1 .0 .now) ≡ take (a .text) (x .1 .1 .0 .now))
+      Alike (record { answer = a; list = x .1 .0 .now; text = x .1 .1 .0 .now })
+      (record { answer = b; list = y .1 .0 .now; text = y .1 .1 .0 .now })
 
   of-calls : Alike (checking limits draft list text table) (checking limits draft′ list′ text′ table) → Same
-  of-calls s = rw (q .0, q .1 .0, q .1 .1, p .0, p .1 .0, p .1 .1, one) (s .answers, s .lists, s .texts-held)
+  of-calls s = rw (q .0, q .1 .0, q .1 .1, p .0, p .1 .0, p .1 .1, one) s
 
   -- drafts that agree through an accepted `|;`, the second within the length limit, with equal room
   pub through :

@@ -71,45 +71,30 @@ module _ (κs : Lfts 3) (given : ArgsD read.signature κs) (a : ResD read.signat
 module _ (κs : Lfts 3) (given : ArgsD read.signature κs) (a : ResD read.signature κs) (x : AtExit (endedOf 3 kinds.ps kinds.r) κs)
     (κs′ : Lfts 3) (given′ : ArgsD read.signature κs′) (b : ResD read.signature κs′) (y : AtExit (endedOf 3 kinds.ps kinds.r) κs′)
     (p : reads.Post κs given a x) (q : reads.Post κs′ given′ b y) where
-  abbrev draft : List ℕ
-  draft = given .0 .now
-
-  abbrev draft′ : List ℕ
-  draft′ = given′ .0 .now
-
-  abbrev list : List ℕ
-  list = given .1 .0 .now
-
-  abbrev list′ : List ℕ
-  list′ = given′ .1 .0 .now
-
-  abbrev text : List ℕ
-  text = given .1 .1 .0 .now
-
-  abbrev text′ : List ℕ
-  text′ = given′ .1 .1 .0 .now
-
-  -- the same answer, and the same held at the front of each buffer
+  -- what the calls leave
   abbrev Same : Type 0
   Same =
-      (b ≡ a)
-      × (take (6 * a .entities) (y .1 .0 .now) ≡ take (6 * a .entities) (x .1 .0 .now))
-      × (take (a .text) (y .1 .1 .0 .now) ≡ take (a .text) (x .1 .1 .0 .now))
+      Alike (record { answer = a; list = x .1 .0 .now; text = x .1 .1 .0 .now })
+      (record { answer = b; list = y .1 .0 .now; text = y .1 .1 .0 .now })
 
-  of-calls : Alike (reading limits draft list text) (reading limits draft′ list′ text′) → Same
-  of-calls s = rw (q .0, q .1 .0, q .1 .1, p .0, p .1 .0, p .1 .1) (s .answers, s .lists, s .texts-held)
+  of-calls :
+      Alike (reading limits (given .0 .now) (given .1 .0 .now) (given .1 .1 .0 .now))
+      (reading limits (given′ .0 .now) (given′ .1 .0 .now) (given′ .1 .1 .0 .now))
+      → Same
+  of-calls s = rw (q .0, q .1 .0, q .1 .1, p .0, p .1 .0, p .1 .1) s
 
   -- drafts that agree through an accepted `|;`, the second within the length limit, with equal room
   pub through :
-      length list′ / 6 ≡ length list / 6 → length text′ ≡ length text → length draft′ ≤ limits .draft → a .number ≡ 0
-      → take (a .consumed) draft ≡ take (a .consumed) draft′ → Same
+      length (given′ .1 .0 .now) / 6 ≡ length (given .1 .0 .now) / 6 → length (given′ .1 .1 .0 .now) ≡ length (given .1 .1 .0 .now)
+      → length (given′ .0 .now) ≤ limits .draft → a .number ≡ 0
+      → take (a .consumed) (given .0 .now) ≡ take (a .consumed) (given′ .0 .now) → Same
   through rooms long there z alike =
-      of-calls (read-through limits draft draft′ (a .consumed) there alike list text list′ text′ rooms long
+      of-calls (read-through limits (given .0 .now) (given′ .0 .now) (a .consumed) there alike _ _ _ _ rooms long
       (sym (ap (λ r. r .number) (p .0)) ∙ z)
       (sym (ap (λ r. r .consumed) (p .0))))
 
   -- the same draft with no less room, where the first call has room enough
   pub roomier :
-      draft′ ≡ draft → length list / 6 ≤ length list′ / 6 → length text ≤ length text′ → Other (a .number) → Same
-  roomier same more longer o =
-      of-calls (rw same (reading-roomier limits draft list text list′ text′ more longer (rw (← p .0) o)))
+      given′ .0 .now ≡ given .0 .now → length (given .1 .0 .now) / 6 ≤ length (given′ .1 .0 .now) / 6
+      → length (given .1 .1 .0 .now) ≤ length (given′ .1 .1 .0 .now) → Other (a .number) → Same
+  roomier same more longer o = of-calls (rw same (reading-roomier limits (given .0 .now) _ _ _ _ more longer (rw (← p .0) o)))

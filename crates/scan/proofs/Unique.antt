@@ -1,5 +1,5 @@
--- No second answer meets the contract of a public function of `scan`. `found` may pass over whitespace and comments in pieces, or tell what stands
--- behind them at once: of it, no two answers that tell a token are there.
+-- No second answer meets the contract of a public function of `scan`. `found` may pass over whitespace and comments in pieces, or tell what
+-- stands behind them at once: of it there are no two answers that tell a token or a refusal.
 use mathlib.Core.Path.{_≡_, refl, sym, _∙_}
 use mathlib.Core.Bool.{Bool, true, false}
 use mathlib.Core.List.{List}

@@ -1,5 +1,5 @@
--- No second answer meets the contract of a public function of `table`. Of `judge` that is its answer: what the index holds afterwards is told by
--- what it finds, and after a table that is not sound not at all.
+-- No second answer meets the contract of a public function of `table`. Of `judge` that is its answer alone: what the index holds afterwards
+-- is told by what it finds, and after a table that is not sound not at all.
 use Rattle.chars.proofs.Only.{one, OneAnswer}
 use Rattle.table.proofs as fn
 

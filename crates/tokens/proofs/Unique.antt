@@ -69,7 +69,9 @@ same-number (suc n) v w h k e =
 pub four : OneAnswer fn.number.four.Kinds.ps fn.number.four.Kinds.r fn.number.four.Reads.Post
 four κs given a b x y p q = same-number 4 a b (p .1) (q .1) (one (p .0) (q .0))
 
--- of `eight` there is no second number of 64 bits: more, an answer cannot have
-pub eight : (κs : Lfts 1) (given : Dens κs fn.number.eight.Kinds.ps) (a b : ℕ) (x y : AtExit (endedOf 1 fn.number.eight.Kinds.ps fn.number.eight.Kinds.r) κs)
+-- of `eight` there is no second number of 64 bits, and another it cannot answer
+pub eight :
+    (κs : Lfts 1) (given : Dens κs fn.number.eight.Kinds.ps) (a b : ℕ)
+    (x y : AtExit (endedOf 1 fn.number.eight.Kinds.ps fn.number.eight.Kinds.r) κs)
     → Fits w64 a → Fits w64 b → fn.number.eight.Reads.Post κs given a x → fn.number.eight.Reads.Post κs given b y → a ≡ b
 eight κs given a b x y h k p q = same-number 8 a b (omega arith) (omega arith) (one p q)
