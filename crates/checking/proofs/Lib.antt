@@ -6,3 +6,4 @@ pub mod Called
 pub mod Alike
 pub mod Runs
 pub mod Running
+pub mod Once

@@ -29,3 +29,4 @@ pub mod Roomier
 pub mod TextOf
 pub mod CleanText
 pub mod VisibleText
+pub mod Once

@@ -46,7 +46,7 @@ ended L draft room r (token w rest) c n z e =
     goes-on (w .place) _ _ c (token-held L draft room r w) z e (λ left r z e. ended L draft left r rest c n z e)
 
 -- what is read behind a token alike is read alike
-taken-same :
+pub taken-same :
     (place : ℕ) (h : Handled) (f g : Room → Reader → Read) → ((left : Room) (r : Reader) → f left r ≡ g left r)
     → taken place h f ≡ taken place h g
 unfolding taken
