@@ -15,6 +15,9 @@ DRAFT = $(wildcard examples/*.draft)
 PREFIX = /usr/local
 installed = $(DESTDIR)$(abspath $(PREFIX))
 
+# The one place that has the version is the header.
+version = $(shell sed -n 's/^.define VOGIEBURN_VERSION "\(.*\)"$$/\1/p' include/vogieburn.h)
+
 .PHONY: show test quick vectors trial trial-selftest bench install setup
 
 show: setup
@@ -43,7 +46,7 @@ install: setup
 	install -d $(installed)/include $(installed)/lib/pkgconfig
 	install -m 644 include/vogieburn.h $(installed)/include/
 	install -m 644 target/staticlib/libvogieburn.a $(installed)/lib/
-	sed 's|@PREFIX@|$(abspath $(PREFIX))|' vogieburn.pc.in >$(installed)/lib/pkgconfig/vogieburn.pc
+	sed -e 's|@PREFIX@|$(abspath $(PREFIX))|' -e 's|@VERSION@|$(version)|' vogieburn.pc.in >$(installed)/lib/pkgconfig/vogieburn.pc
 	chmod 644 $(installed)/lib/pkgconfig/vogieburn.pc
 
 setup:

@@ -26,6 +26,9 @@
 extern "C" {
 #endif
 
+/* Which library this is: the version of the header, of the archive beside it, of pkg-config's file and of the viewer. */
+#define VOGIEBURN_VERSION "0.2.0"
+
 /* A draft of more bytes is refused with VOGIEBURN_DRAFT_TOO_LONG. */
 #define VOGIEBURN_DRAFT_LIMIT 16384
 
@@ -355,6 +358,48 @@ static inline int vogieburn_operation_make(vogieburn_operation *operation, const
     made.gives_len = (uint8_t)gives_len;
     *operation = made;
     return 1;
+}
+
+/* A number of refusal in words, for people: what was met, as document 01 says it. They are US-ASCII and never null; 0 and the numbers
+ * that no answer has are told as such. */
+static inline const char *vogieburn_refusal_words(uint64_t number)
+{
+    static const char *const words[] = {
+        "not refused",
+        "draft over 16,384 bytes",
+        "malformed bytes, which are not UTF-8",
+        "unpaired surrogate",
+        "nul",
+        "CR without LF",
+        "illegal character outside comment and string",
+        "draft ends before its |; is read",
+        "simple token or prefix over 255 bytes",
+        "string data over 4,096 clean bytes",
+        "% inside a metacommand",
+        "; outside a metacommand",
+        "|; in a metacommand",
+        "|; with a group or array open",
+        ") with no group to close here",
+        ", with no array element to end here",
+        "] with no array to close here",
+        "over 64 groups open, inserted ones counted",
+        "next entity does not fit the list",
+        "text and data do not fit the text buffer",
+        "table breaks its rules",
+        "operation unknown",
+        "too few cells in sight",
+        "wrong kind of cell",
+        "array wanted, plain number on top",
+        "name defined before",
+        "name not defined",
+        "put to a constant",
+        "group ends without exactly one cell",
+        "over 1,024 cells, hidden ones counted",
+        "over 128 names",
+        "place past the draft",
+    };
+
+    return number < sizeof words / sizeof *words ? words[number] : "no number of refusal";
 }
 
 /* An entity's text, text_len bytes, in the text buffer that it was read into. */
