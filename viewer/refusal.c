@@ -18,22 +18,35 @@ static const vogieburn_entity *definition_of(const draft *d, const vogieburn_ent
     return NULL;
 }
 
-/* The begin group that is open behind so many entities, and the innermost of those; null if there is none. */
-static const vogieburn_entity *open_group(const draft *d, size_t count)
+/* What of so many entities begins something and is not ended by another kind of entity: the innermost; null if there is none. */
+static const vogieburn_entity *open_among(const draft *d, size_t count, uint32_t begin, uint32_t end)
 {
-    size_t closed = 0;
+    size_t ended = 0;
 
     for (size_t i = count; i > 0; i--)
-        if (d->list[i - 1].kind == VOGIEBURN_END_GROUP)
-            closed++;
-        else if (d->list[i - 1].kind == VOGIEBURN_BEGIN_GROUP && closed-- == 0)
+        if (d->list[i - 1].kind == end)
+            ended++;
+        else if (d->list[i - 1].kind == begin && ended-- == 0)
             return &d->list[i - 1];
     return NULL;
+}
+
+static const vogieburn_entity *open_group(const draft *d, size_t count)
+{
+    return open_among(d, count, VOGIEBURN_BEGIN_GROUP, VOGIEBURN_END_GROUP);
+}
+
+static const vogieburn_entity *open_metacommand(const draft *d)
+{
+    return open_among(d, d->answer.entities, VOGIEBURN_BEGIN_METACOMMAND, VOGIEBURN_END_METACOMMAND);
 }
 
 static const vogieburn_entity *earlier_of(const draft *d, const refusal *r)
 {
     switch (r->number) {
+    case VOGIEBURN_METACOMMAND_INSIDE:
+    case VOGIEBURN_END_IN_METACOMMAND: return open_metacommand(d);
+    case VOGIEBURN_DRAFT_ENDS: return open_metacommand(d) != NULL ? open_metacommand(d) : open_group(d, d->answer.entities);
     case VOGIEBURN_END_IN_GROUP: return open_group(d, d->answer.entities);
     case VOGIEBURN_NOT_ONE_CELL: return open_group(d, d->answer.steps);
     case VOGIEBURN_WRONG_KIND:
@@ -128,13 +141,12 @@ static void note_sign(const writer *w, const draft *d, const refusal *r)
           w->to);
 }
 
-static const char *words_for_earlier(uint64_t number)
+static const char *words_for_earlier(const refusal *r)
 {
-    switch (number) {
-    case VOGIEBURN_END_IN_GROUP: return "the group or element that is open begins here";
-    case VOGIEBURN_NOT_ONE_CELL: return "the group or element begins here";
-    case VOGIEBURN_WRONG_KIND: return "the name has its kind from here";
-    default: return "the name is defined here";
+    switch (r->earlier->kind) {
+    case VOGIEBURN_BEGIN_METACOMMAND: return "the metacommand begins here";
+    case VOGIEBURN_BEGIN_GROUP: return "the group or element begins here";
+    default: return r->number == VOGIEBURN_WRONG_KIND ? "the name has its kind from here" : "the name is defined here";
     }
 }
 
@@ -143,7 +155,7 @@ static void note_earlier(const writer *w, const draft *d, const refusal *r)
     const position p = position_of(draft_span(d), r->earlier->place);
 
     write_place(w, d->file, &p);
-    fprintf(w->to, "note: %s\n", words_for_earlier(r->number));
+    fprintf(w->to, "note: %s\n", words_for_earlier(r));
 }
 
 void write_refusal(const writer *w, const draft *d)

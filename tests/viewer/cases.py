@@ -5,7 +5,7 @@
 
 WORDS are the command that runs it. It is run in the repository's folder. The last line is 'N passed, M failed'.
 """
-import fcntl, json, os, pty, struct, subprocess, sys, tempfile, termios
+import fcntl, json, os, pty, random, struct, subprocess, sys, tempfile, termios
 
 command = sys.argv[1:]
 work = tempfile.mkdtemp()
@@ -53,6 +53,10 @@ def examples():
             if name.endswith('.draft'):
                 path = f'examples/{folder}/{name}'
                 case(path, HOUSE + [path], status=status, out=read(path[:-6] + '.shown'))
+    for name in 'refused/23', 'sound/stole':
+        picture = f'    $ vogieburn-view -t examples/house.table examples/{name}.draft\n'.encode()
+        picture += b''.join(b'    ' + line + b'\n' for line in read(f'examples/{name}.shown').splitlines())
+        one(f'the picture of {name} in README.md', picture in read('README.md'), picture)
     numbers = sorted(int(n[:-6]) for n in os.listdir('examples/refused') if n.endswith('.draft'))
     one('an example for each refusal that is to have one', numbers == [7, 14, 21, 22, 23, 24, 28], numbers)
     for number in numbers:
@@ -103,7 +107,10 @@ def refusals():
          has=b": name defined before: 'x'\n1 ?x 1 @x |;\n       ^\n<stdin>:1:3: note: the name is defined here\n")
     case('a name not defined', ['-t', table], b'= |;', 1, has=b": name not defined: ''\n")
     case('a put to a constant', ['-t', table], b'1 @x 1 :x |;', 1, has=b": put to a constant: 'x'\n")
-    case('the group that is open', [], b'(1\n(2) [3 |;', 1, has=b'<stdin>:2:6: note: the group or element that is open begins here\n')
+    case('the group that is open', [], b'(1\n(2) [3 |;', 1, has=b'<stdin>:2:6: note: the group or element begins here\n')
+    case('the group that is open at the end', [], b'(1 (2) ', 1, has=b'<stdin>:1:1: note: the group or element begins here\n')
+    case('the metacommand that is open', [], b'(%;\n%a |;', 1, has=b'<stdin>:2:1: note: the metacommand begins here\n')
+    case('the metacommand that is open at the end', [], b'(%a ', 1, has=b'<stdin>:1:2: note: the metacommand begins here\n')
 
 
 # ---- places
@@ -243,6 +250,18 @@ def options():
     one('what cannot be written', said.returncode == 2 and b'standard output' in said.stderr, said)
 
 
+def any_words():
+    """Whatever words there are, the viewer ends by itself."""
+    lots = random.Random(1)
+    pool = ['-t', '--table', '--table=', '-', '--', '--list', '--json', '--remarks', '-h', '-V', '-thV', '--re', '--li=', '', '\x1b', '-\x7f',
+            'examples/house.table', 'examples/refused/24.draft', 'examples', '/dev/null', '-texamples/house.table', '\udcff']
+    for turn in range(60):
+        words = [lots.choice(pool) for _ in range(lots.randrange(6))]
+        said = run(words, b'[3, 11, 19] bind |;')
+        clean = all(c >= 32 or c == 10 for c in said.stdout + said.stderr) and b'Sanitizer' not in said.stderr
+        one(f'any words: {words}', said.returncode in (0, 1, 2) and clean, said)
+
+
 def remarks():
     case('only whitespace follows', ['--remarks'], b'|; \r\n', has=b'consumed\nremarks: none, only whitespace follows the |;\n')
     case('remarks follow', ['--remarks'], b'|;\n\n  16 November\n',
@@ -279,7 +298,7 @@ def objects():
         and data['tail'] == {'yes': False, 'place': 17, 'line': 1, 'column': 14}, data)
     bad = told('malformed bytes', [], b'a\n"\xff\0" |;', 1)
     one('json: malformed bytes', bad.get('refusal', {}).get('source') == '"\ufffd\0" |;'
-        and bytes.fromhex(bad['refusal']['source_hex']) == b'"\xff\0" |;' and bad['refusal']['line'] == 2, bad)
+        and bytes.fromhex(bad['refusal'].get('source_hex', '')) == b'"\xff\0" |;' and bad['refusal']['line'] == 2, bad)
     odd = told('a name that is not UTF-8', [file(b'\xff"\n.draft', b'|;')], b'')
     one('json: a name that is not UTF-8', bytes.fromhex(odd.get('draft_hex', '')).endswith(b'/\xff"\n.draft'), odd)
     wrong = told('a wrong kind', HOUSE + ['examples/refused/23.draft'], b'', 1)
@@ -320,7 +339,7 @@ def terminals():
     one('a long line on a terminal', lines[1:3] == ['a' * 9 + ' \u4e00 ' + 'b' * 7, ' ' * 10 + '^'], lines)
 
 
-for part in examples, answers, refusals, carets, tables, options, remarks, listings, objects, terminals:
+for part in examples, answers, refusals, carets, tables, options, any_words, remarks, listings, objects, terminals:
     part()
 subprocess.run(['rm', '-r', work])
 print(f'{counts[True]} passed, {counts[False]} failed')
