@@ -3,9 +3,15 @@
 #include <string.h>
 
 #include "characters.h"
+#include "vogieburn.h"
 
-/* Columns from one stop of the tabulator to the next. */
-enum { TAB = 8 };
+enum {
+    /* Columns from one stop of the tabulator to the next. */
+    TAB = 8,
+    /* Columns of a line that are shown where there is no terminal: all that a draft's line can have, since no byte takes more than a
+     * tab, and enough of a table's. */
+    WIDEST = TAB * VOGIEBURN_DRAFT_LIMIT,
+};
 
 bool has_mark(span text)
 {
@@ -105,11 +111,10 @@ typedef struct {
 
 static window window_of(const writer *w, size_t caret)
 {
-    if (w->columns == 0)
-        return (window){0, SIZE_MAX};
-    if (caret < w->columns)
-        return (window){0, w->columns};
-    return (window){caret - w->columns / 2, caret - w->columns / 2 + w->columns};
+    const size_t columns = w->columns > 0 ? w->columns : WIDEST;
+    const size_t from = caret < columns ? 0 : caret - columns / 2;
+
+    return (window){from, from + columns};
 }
 
 static void write_blanks(const writer *w, size_t count)

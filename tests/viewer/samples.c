@@ -126,11 +126,34 @@ static void write_text(lots *l, sample *s)
         put_words(s, "# no line end behind this");
 }
 
+static bool stands_twice(const vogieburn_operation *o)
+{
+    size_t same = 0;
+
+    for (size_t i = 0; i < operations_of(&t); i++)
+        same += t.operations[i].name_len == o->name_len && memcmp(t.operations[i].name, o->name, o->name_len) == 0;
+    return same > 1;
+}
+
+/* Any visible byte becomes the first of one operation's name, so that some names are those of no operation in a draft. A # would make
+ * a remark of the line. */
+static void mark_name(lots *l)
+{
+    vogieburn_operation *const o = &t.operations[below(l, operations_of(&t))];
+    const uint8_t was = o->name[0];
+
+    o->name[0] = (uint8_t)('!' + below(l, '~' - '!' + 1));
+    if (o->name[0] == '#' || stands_twice(o))
+        o->name[0] = was;
+}
+
 void sample_check(uint64_t number, sample *s)
 {
     lots l = lots_for(SEED + 1, number);
 
     draw_table(&l, &t);
+    if (t.len > 0 && one_in(&l, 2))
+        mark_name(&l);
     make_passing(&l, &t, &d);
     if (one_in(&l, 16))
         damage_draft(&l, &d);
