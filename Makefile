@@ -91,8 +91,8 @@ ln -sf vogieburn.3 $(installed)/share/man/$(1)
 
 endef
 
-# Proved anew whenever a file of the crates is younger.
-$(archive): crates.txt $(shell find crates -type f -not -path '*/must-fail/*')
+# Proved anew whenever a file or a folder of the crates is younger.
+$(archive): crates.txt $(shell find crates -not -path '*/must-fail*')
 	rt staticlib vogieburn
 
 viewer: setup $(archive)

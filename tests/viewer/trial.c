@@ -1,6 +1,7 @@
 /* Tries the viewer's parts on drafts and tables drawn by lot, in one process, so that a sanitizer sees every step of them.
  *
  *     trial                 all of it; the last line is 'N passed, M failed'
+ *     trial --few           a tenth of it
  *     trial --write FOLDER  writes drafts to FOLDER/0.draft and on, for the tests that run the viewer itself
  *
  * What is written is looked at as well: it is UTF-8, and of control characters it has only LF, and ESC where it is coloured.
@@ -18,7 +19,10 @@
 #include "samples.h"
 #include "show.h"
 
-enum { READINGS = 20000, CHECKS = 10000, DAMAGED = 10000, WRITTEN = 200 };
+enum { WRITTEN = 200 };
+
+/* How many of each there are. */
+static size_t readings = 20000, checks = 10000, damages = 10000;
 
 static sample s;
 static draft seen;
@@ -169,11 +173,11 @@ static void try_draft(const table *t, uint64_t number)
 
 static void try_readings(void)
 {
-    for (uint64_t i = 0; i < READINGS; i++) {
+    for (uint64_t i = 0; i < readings; i++) {
         sample_reading(i, &s);
         try_draft(NULL, i);
     }
-    tell("drafts were read and shown", READINGS);
+    tell("drafts were read and shown", readings);
 }
 
 /* ---- tables */
@@ -236,12 +240,12 @@ static void try_checks(void)
 {
     size_t tables = 0;
 
-    for (uint64_t i = 0; i < CHECKS; i++) {
+    for (uint64_t i = 0; i < checks; i++) {
         sample_check(i, &s);
         tables += try_check(i);
     }
-    hold(tables > CHECKS / 2, "most texts are tables", tables);
-    tell("tables were parsed and drafts shown under them", CHECKS);
+    hold(tables > checks / 2, "most texts are tables", tables);
+    tell("tables were parsed and drafts shown under them", checks);
 }
 
 /* The library takes every table that the parser makes. */
@@ -258,7 +262,7 @@ static void try_damaged(void)
 {
     size_t damaged = 0, refused = 0;
 
-    for (uint64_t i = 0; damaged < DAMAGED; i++) {
+    for (uint64_t i = 0; damaged < damages; i++) {
         sample_check(i, &s);
         if (!sample_damage(i, &s))
             continue;
@@ -268,25 +272,34 @@ static void try_damaged(void)
         else
             refused++;
     }
-    hold(refused > DAMAGED / 4 && refused < DAMAGED, "some damaged texts are tables and some not", refused);
-    tell("damaged tables were parsed", DAMAGED);
+    hold(refused > damages / 4 && refused < damages, "some damaged texts are tables and some not", refused);
+    tell("damaged tables were parsed", damages);
 }
 
 /* ---- widths */
 
+/* Narrow, combining, wide and unseen ones. */
+static const uint32_t numbers[] = {'a', 0xE9, 0x301, 0x20DD, 0x4E00, 0xFF21, 0xAC00, 0x1F600, 0x7F, 0x85, 0x202E, 0x200B};
+
+enum { NUMBERS = sizeof numbers / sizeof *numbers };
+
+static void tell_widths(size_t *widths)
+{
+    for (size_t i = 0; i < NUMBERS; i++)
+        widths[i] = character_shown((character){numbers[i], 1, true}).width;
+}
+
 /* Without a locale the same characters are wide, combining and unseen. */
 static void try_widths(void)
 {
-    static const uint32_t numbers[] = {'a', 0xE9, 0x301, 0x20DD, 0x4E00, 0xFF21, 0xAC00, 0x1F600, 0x7F, 0x85, 0x202E, 0x200B};
-    const size_t count = sizeof numbers / sizeof *numbers;
-    size_t widths[sizeof numbers / sizeof *numbers];
+    size_t without[NUMBERS], with[NUMBERS];
 
-    for (size_t i = 0; i < count; i++)
-        widths[i] = character_shown((character){numbers[i], 1, true}).width;
+    tell_widths(without);
     characters_begin();
-    for (size_t i = 0; i < count; i++)
-        hold(widths[i] == character_shown((character){numbers[i], 1, true}).width, "widths with and without a locale", numbers[i]);
-    tell("characters are as wide without a locale as with one", count);
+    tell_widths(with);
+    for (size_t i = 0; i < NUMBERS; i++)
+        hold(without[i] == with[i], "widths with and without a locale", numbers[i]);
+    tell("characters are as wide without a locale as with one", NUMBERS);
 }
 
 /* ---- drafts for other tests */
@@ -311,6 +324,11 @@ int main(int argc, char **argv)
     if (argc == 3 && strcmp(argv[1], "--write") == 0) {
         write_drafts(argv[2]);
         return 0;
+    }
+    if (argc == 2 && strcmp(argv[1], "--few") == 0) {
+        readings /= 10;
+        checks /= 10;
+        damages /= 10;
     }
     try_widths();
     try_readings();
