@@ -92,7 +92,7 @@ ln -sf vogieburn.3 $(installed)/share/man/$(1)
 endef
 
 # Proved anew whenever a file or a folder of the crates is younger.
-$(archive): crates.txt $(shell find crates -not -path '*/must-fail*')
+$(archive): crates.txt $(shell find crates -not -path '*/must-fail*') | setup
 	rt staticlib vogieburn
 
 viewer: setup $(archive)

@@ -135,6 +135,7 @@ static void note_operation(const writer *w, const draft *d, const refusal *r)
 /* What fits ?, @ and :, which the table knows nothing of. */
 static void note_sign(const writer *w, const draft *d, const refusal *r)
 {
+    write_place(w, d->file, &r->at);
     fputs("note: ", w->to);
     write_token(w, d, r->entity);
     fputs(r->entity->kind == VOGIEBURN_PUT ? " takes one cell, of the kind that the name has\n" : " takes one cell, of any kind\n",

@@ -84,24 +84,33 @@ def answers():
     case('the same, read', ['--list'], b'(1) |;', out=b'0 6 0 0 0\n1 9 1 0 0\n2 7 0 0 0\n4 17 0 0 0\nread 6\n')
 
 
+# The number, a draft that is refused so, the line, the column, and some of the words that document 01 has for it.
 REFUSALS = [
-    (1, b' ' * 16385, 1, 1), (2, b'"\xC3"', 1, 2), (3, b'#\xED\xA0\x80', 1, 2), (4, b'a\0', 1, 2), (5, b'\ra', 1, 1),
-    (6, b'\n \x7F', 2, 2), (7, b'', 1, 1), (8, b'a' * 256, 1, 256), (9, b'"' + b'a' * 4097, 1, 4098), (10, b'%%', 1, 2),
-    (11, b'\n;', 2, 1), (12, b'%|;', 1, 2), (13, b'(|;', 1, 2), (14, b')', 1, 1), (15, b',', 1, 1), (16, b']', 1, 1),
-    (17, b'(' * 65, 1, 65), (21, b'none |;', 1, 1), (22, b'n |;', 1, 1), (23, b'"" n |;', 1, 4), (24, b'1 a |;', 1, 3),
-    (25, b'1 ?x 1 @x |;', 1, 8), (26, b'=x |;', 1, 1), (27, b'1 @x 1 :x |;', 1, 8), (28, b'() |;', 1, 2),
-    (29, b'1 ' * 1025 + b'|;', 1, 2049), (30, b''.join(b'1 ?%d ' % i for i in range(100, 229)) + b'|;', 1, 899),
+    (1, b' ' * 16385, 1, 1, 'over 16,384 bytes'), (2, b'"\xC3"', 1, 2, 'malformed'), (3, b'#\xED\xA0\x80', 1, 2, 'unpaired surrogate'),
+    (4, b'a\0', 1, 2, 'nul'), (5, b'\ra', 1, 1, 'CR without LF'), (6, b'\n \x7F', 2, 2, 'illegal character outside comment and string'),
+    (7, b'', 1, 1, 'draft ends'), (8, b'a' * 256, 1, 256, 'over 255 bytes'), (9, b'"' + b'a' * 4097, 1, 4098, 'over 4,096 clean bytes'),
+    (10, b'%%', 1, 2, '% inside'), (11, b'\n;', 2, 1, '; outside'), (12, b'%|;', 1, 2, '|; in a metacommand'),
+    (13, b'(|;', 1, 2, '|; with a group or array open'), (14, b')', 1, 1, ') with'), (15, b',', 1, 1, ', with'), (16, b']', 1, 1, '] with'),
+    (17, b'(' * 65, 1, 65, 'over 64 groups'), (21, b'none |;', 1, 1, 'operation unknown'), (22, b'n |;', 1, 1, 'too few cells in sight'),
+    (23, b'"" n |;', 1, 4, 'wrong kind'), (24, b'1 a |;', 1, 3, 'array wanted, plain number on top'),
+    (25, b'1 ?x 1 @x |;', 1, 8, 'name defined before'), (26, b'=x |;', 1, 1, 'name not defined'),
+    (27, b'1 @x 1 :x |;', 1, 8, 'put to a constant'), (28, b'() |;', 1, 2, 'group ends without exactly one cell'),
+    (29, b'1 ' * 1025 + b'|;', 1, 2049, 'over 1,024 cells'),
+    (30, b''.join(b'1 ?%d ' % i for i in range(100, 229)) + b'|;', 1, 899, 'over 128 names'),
 ]
 
 
 def refusals():
     table = file('few.table', b'n: number ->\na: [number] ->\n')
-    for number, given, line, column in REFUSALS:
-        case(f'refusal {number}', ['-t', table], given, 1, has=b'<stdin>:%d:%d: refused %d: ' % (line, column, number))
+    for number, given, line, column, words in REFUSALS:
+        said = run(['-t', table], given)
+        first = said.stdout.split(b'\n')[0].decode()
+        one(f'refusal {number}', said.returncode == 1 and first.startswith(f'<stdin>:{line}:{column}: refused {number}: ')
+            and words in first, said)
     case('the unknown operation', ['-t', table], b'none |;', 1, has=b": operation unknown: 'none'\n")
     case('what is taken', ['-t', table], b'1 a |;', 1, has=f'{table}:2:1: note: a takes [number]\n'.encode())
-    case('what ? takes', ['-t', table], b'?x |;', 1, has=b'note: ?x takes one cell, of any kind\n')
-    case('what : takes', ['-t', table], b':x |;', 1, has=b'note: :x takes one cell, of the kind that the name has\n')
+    case('what ? takes', ['-t', table], b'?x |;', 1, has=b'<stdin>:1:1: note: ?x takes one cell, of any kind\n')
+    case('what : takes', ['-t', table], b':x |;', 1, has=b'<stdin>:1:1: note: :x takes one cell, of the kind that the name has\n')
     case('a put of another kind', ['-t', table], b'1 ?x\n"" :x |;', 1, has=b'<stdin>:1:3: note: the name has its kind from here\n')
     case('a name defined before', ['-t', table], b'1 ?x 1 @x |;', 1,
          has=b": name defined before: 'x'\n1 ?x 1 @x |;\n       ^\n<stdin>:1:3: note: the name is defined here\n")
@@ -274,6 +283,8 @@ def listings():
         if name.endswith('.draft'):
             listing = read(f'examples/{name[:-6]}.listing')
             case(f'--list {name}', ['--list', f'examples/{name}'], status=0 if b'read' in listing else 1, out=listing)
+    for length in 16385, 300000:
+        case(f'--list of {length} bytes', ['--list'], b' ' * length, 1, out=b'refused 1 0\n')
     case('--list has room for 2,000', ['--list'], b'a ' * 2000 + b'|;', 1, has=b'refused 18 4000\n')
     case('--list under a table', HOUSE + ['--list', 'examples/refused/28.draft'], status=1, has=b'refused 28 64\n')
 
