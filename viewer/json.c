@@ -163,15 +163,6 @@ static void member_answer(const writer *w, const vogieburn_answer *a)
     fputc('}', w->to);
 }
 
-static void member_earlier(const writer *w, const draft *d, const vogieburn_entity *earlier)
-{
-    const position p = position_of(draft_span(d), earlier->place);
-
-    fprintf(w->to, ",\"earlier\":{\"entity\":%zu", (size_t)(earlier - d->list));
-    members_place(w, &p, earlier->place);
-    fputc('}', w->to);
-}
-
 static void member_refusal(const writer *w, const draft *d)
 {
     const refusal r = refusal_of(d);
@@ -188,8 +179,11 @@ static void member_refusal(const writer *w, const draft *d)
         member_items(w, d->under, "takes", r.operation->takes, r.operation->takes_len);
         member_number(w, "table_line", r.line.line);
     }
-    if (r.earlier != NULL)
-        member_earlier(w, d, r.earlier);
+    if (r.note != NULL) {
+        fprintf(w->to, ",\"note\":{\"words\":\"%s\"", r.note);
+        members_place(w, &r.noted, r.noted.place);
+        fputc('}', w->to);
+    }
     fputc('}', w->to);
 }
 

@@ -1,6 +1,7 @@
 #include "refusal.h"
 
 #include <inttypes.h>
+#include <string.h>
 
 /* ---- what has to do with a refusal */
 
@@ -41,18 +42,77 @@ static const vogieburn_entity *open_metacommand(const draft *d)
     return open_among(d, d->answer.entities, VOGIEBURN_BEGIN_METACOMMAND, VOGIEBURN_END_METACOMMAND);
 }
 
-static const vogieburn_entity *earlier_of(const draft *d, const refusal *r)
+/* The first place from another on that is neither whitespace nor a comment; the draft's length if there is none. */
+static size_t past_comments(const draft *d, size_t place)
+{
+    vogieburn_tail_answer tail = vogieburn_tail(d->bytes, d->length, place);
+
+    while (!tail.yes && d->bytes[tail.place] == '#') {
+        const uint8_t *const end = memchr(d->bytes + tail.place, '\n', d->length - tail.place);
+
+        if (end == NULL)
+            return d->length;
+        tail = vogieburn_tail(d->bytes, d->length, (size_t)(end - d->bytes) + 1);
+    }
+    return tail.yes ? d->length : tail.place;
+}
+
+/* Where the token begins that reading could not end; the draft's length if there is none. The last entity is stepped on from, since what
+ * stands between its token and this one brought no entity. */
+static size_t unended(const draft *d)
+{
+    const size_t first = position_first(draft_span(d)).place;
+    vogieburn_token token = {.next = d->answer.entities > 0 ? d->list[d->answer.entities - 1].place : first};
+
+    do
+        token = vogieburn_step(d->bytes, d->length, token.next);
+    while (token.number == 0 && token.sort != VOGIEBURN_SORT_LAST);
+    return past_comments(d, token.next);
+}
+
+static void note_place(const draft *d, refusal *r, size_t place, const char *words)
+{
+    r->note = words;
+    r->noted = position_of(draft_span(d), place);
+}
+
+static void note_entity(const draft *d, refusal *r, const vogieburn_entity *e, const char *words)
+{
+    if (e != NULL)
+        note_place(d, r, e->place, words);
+}
+
+static const char group_begins[] = "the group or element begins here", metacommand_begins[] = "the metacommand begins here";
+
+/* Reading came to an end inside something: a token, a metacommand or a group. */
+static void note_unended(const draft *d, refusal *r)
+{
+    const size_t token = unended(d);
+
+    if (token < d->length)
+        note_place(d, r, token, "the token or string that is not ended begins here");
+    else if (open_metacommand(d) != NULL)
+        note_entity(d, r, open_metacommand(d), metacommand_begins);
+    else
+        note_entity(d, r, open_group(d, d->answer.entities), group_begins);
+}
+
+static void find_note(const draft *d, refusal *r)
 {
     switch (r->number) {
+    case VOGIEBURN_DRAFT_ENDS:
+    case VOGIEBURN_STRING_TOO_LONG: note_unended(d, r); break;
     case VOGIEBURN_METACOMMAND_INSIDE:
-    case VOGIEBURN_END_IN_METACOMMAND: return open_metacommand(d);
-    case VOGIEBURN_DRAFT_ENDS: return open_metacommand(d) != NULL ? open_metacommand(d) : open_group(d, d->answer.entities);
-    case VOGIEBURN_END_IN_GROUP: return open_group(d, d->answer.entities);
-    case VOGIEBURN_NOT_ONE_CELL: return open_group(d, d->answer.steps);
+    case VOGIEBURN_END_IN_METACOMMAND: note_entity(d, r, open_metacommand(d), metacommand_begins); break;
+    case VOGIEBURN_END_IN_GROUP: note_entity(d, r, open_group(d, d->answer.entities), group_begins); break;
+    case VOGIEBURN_NOT_ONE_CELL: note_entity(d, r, open_group(d, d->answer.steps), group_begins); break;
     case VOGIEBURN_WRONG_KIND:
+        if (r->entity->kind == VOGIEBURN_PUT)
+            note_entity(d, r, definition_of(d, r->entity), "the name has its kind from here");
+        break;
     case VOGIEBURN_NAME_DEFINED:
-    case VOGIEBURN_PUT_TO_CONSTANT: return sign_of(r->entity) != '\0' ? definition_of(d, r->entity) : NULL;
-    default: return NULL;
+    case VOGIEBURN_PUT_TO_CONSTANT: note_entity(d, r, definition_of(d, r->entity), "the name is defined here"); break;
+    default: break;
     }
 }
 
@@ -80,7 +140,7 @@ refusal refusal_of(const draft *d)
         r.entity = &d->list[d->answer.steps];
     if (is_of_taking(r.number) && r.entity->kind == VOGIEBURN_OPERATION)
         find_operation(d, &r);
-    r.earlier = earlier_of(d, &r);
+    find_note(d, &r);
     return r;
 }
 
@@ -142,23 +202,6 @@ static void note_sign(const writer *w, const draft *d, const refusal *r)
           w->to);
 }
 
-static const char *words_for_earlier(const refusal *r)
-{
-    switch (r->earlier->kind) {
-    case VOGIEBURN_BEGIN_METACOMMAND: return "the metacommand begins here";
-    case VOGIEBURN_BEGIN_GROUP: return "the group or element begins here";
-    default: return r->number == VOGIEBURN_WRONG_KIND ? "the name has its kind from here" : "the name is defined here";
-    }
-}
-
-static void note_earlier(const writer *w, const draft *d, const refusal *r)
-{
-    const position p = position_of(draft_span(d), r->earlier->place);
-
-    write_place(w, d->file, &p);
-    fprintf(w->to, "note: %s\n", words_for_earlier(r));
-}
-
 void write_refusal(const writer *w, const draft *d)
 {
     const refusal r = refusal_of(d);
@@ -169,6 +212,8 @@ void write_refusal(const writer *w, const draft *d)
         note_operation(w, d, &r);
     else if (is_of_taking(r.number))
         note_sign(w, d, &r);
-    if (r.earlier != NULL)
-        note_earlier(w, d, &r);
+    if (r.note != NULL) {
+        write_place(w, d->file, &r.noted);
+        fprintf(w->to, "note: %s\n", r.note);
+    }
 }

@@ -12,7 +12,8 @@ typedef struct {
     const vogieburn_entity *entity;       /* of 21 to 30: the refused one; else null */
     const vogieburn_operation *operation; /* of 22 to 24 at an operation: its line of the table; else null */
     position line;                        /* where that line stands */
-    const vogieburn_entity *earlier;      /* what defined the name, or began the group or metacommand; or null */
+    const char *note;                     /* what stands elsewhere in the draft and has to do with it, in words; or null */
+    position noted;                       /* where that stands */
 } refusal;
 
 /* The draft was refused. */

@@ -118,8 +118,12 @@ def refusals():
     case('a put to a constant', ['-t', table], b'1 @x 1 :x |;', 1, has=b": put to a constant: 'x'\n")
     case('the group that is open', [], b'(1\n(2) [3 |;', 1, has=b'<stdin>:2:6: note: the group or element begins here\n')
     case('the group that is open at the end', [], b'(1 (2) ', 1, has=b'<stdin>:1:1: note: the group or element begins here\n')
+    case('the string that is not ended', [], b'(a # "\n\n [ "b |;', 1, has=b'<stdin>:3:4: note: the token or string that is not ended')
+    case('the token that is not ended', [], b'\xef\xbb\xbf ab', 1, has=b'<stdin>:1:2: note: the token or string that is not ended')
+    case('the string that is too long', [], b'a p{' + b'b' * 4097, 1, has=b'<stdin>:1:3: note: the token or string that is not ended')
+    case('a comment that is not ended', [], b'a # b', 1, out=b'<stdin>:1:6: refused 7: draft ends before its |; is read\na # b\n     ^\n')
     case('the metacommand that is open', [], b'(%;\n%a |;', 1, has=b'<stdin>:2:1: note: the metacommand begins here\n')
-    case('the metacommand that is open at the end', [], b'(%a ', 1, has=b'<stdin>:1:2: note: the metacommand begins here\n')
+    case('the metacommand that is open at the end', [], b'(%a # b\n', 1, has=b'<stdin>:1:2: note: the metacommand begins here\n')
 
 
 # ---- places
