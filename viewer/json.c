@@ -176,6 +176,7 @@ static void member_refusal(const writer *w, const draft *d)
         member_string(w, "text", text_of(d, r.entity));
     }
     if (r.operation != NULL) {
+        member_string(w, "operation", (span){r.operation->name, r.operation->name_len});
         member_items(w, d->under, "takes", r.operation->takes, r.operation->takes_len);
         member_number(w, "table_line", r.line.line);
     }

@@ -17,8 +17,8 @@ void write_help(const writer *w)
           "  -h, --help         show this and leave\n"
           "  -V, --version      show the version and leave\n"
           "\n"
-          "The exit status is 0 for a draft that is sound, or without a table read to its end; 1 for one that is refused; and 2 where\n"
-          "a file could not be read, a table is faulty or the options are.\n",
+          "The exit status is 0 for a draft that is sound, or without a table read to its end; 1 for one that is\n"
+          "refused; and 2 where a file could not be read, a table is faulty or the options are.\n",
           w->to);
 }
 
@@ -87,10 +87,11 @@ static bool take_draft(const writer *w, int argc, char **argv, options *o)
 
 bool options_parse(const writer *w, int argc, char **argv, options *o)
 {
-    static const struct option known[] = {{"table", required_argument, NULL, WITH_TABLE}, {"list", no_argument, NULL, WITH_LIST},
-                                          {"remarks", no_argument, NULL, WITH_REMARKS},   {"json", no_argument, NULL, WITH_JSON},
-                                          {"help", no_argument, NULL, WITH_HELP},         {"version", no_argument, NULL, WITH_VERSION},
-                                          {NULL, 0, NULL, 0}};
+    static const struct option known[] = {
+        {"table", required_argument, NULL, WITH_TABLE}, {"list", no_argument, NULL, WITH_LIST},
+        {"remarks", no_argument, NULL, WITH_REMARKS},   {"json", no_argument, NULL, WITH_JSON},
+        {"help", no_argument, NULL, WITH_HELP},         {"version", no_argument, NULL, WITH_VERSION},
+        {NULL, 0, NULL, 0}};
     int option;
 
     *o = (options){.draft = "-", .request = SHOW};

@@ -3,6 +3,8 @@
 #include <inttypes.h>
 #include <string.h>
 
+#include "nearest.h"
+
 /* ---- what has to do with a refusal */
 
 static bool defines(const vogieburn_entity *e)
@@ -57,8 +59,8 @@ static size_t past_comments(const draft *d, size_t place)
     return tail.yes ? d->length : tail.place;
 }
 
-/* Where the token begins that reading could not end; the draft's length if there is none. The last entity is stepped on from, since what
- * stands between its token and this one brought no entity. */
+/* Where the token begins that reading could not end; the draft's length if there is none. It is stepped to from the last entity, since
+ * what stands between its token and this one brought no entity. */
 static size_t unended(const draft *d)
 {
     const size_t first = position_first(draft_span(d)).place;
@@ -121,9 +123,11 @@ static bool is_of_taking(uint64_t number)
     return number == VOGIEBURN_TOO_FEW_CELLS || number == VOGIEBURN_WRONG_KIND || number == VOGIEBURN_NO_ARRAY;
 }
 
+/* The operation that was refused, or where it is unknown the one that was meant, perhaps. */
 static void find_operation(const draft *d, refusal *r)
 {
-    const size_t found = table_find(d->under, text_of(d, r->entity));
+    const span name = text_of(d, r->entity);
+    const size_t found = r->number == VOGIEBURN_UNKNOWN_OPERATION ? table_nearest(d->under, name) : table_find(d->under, name);
 
     if (found < d->under->count) {
         r->operation = &d->under->operations[found];
@@ -138,7 +142,7 @@ refusal refusal_of(const draft *d)
 
     if (checked)
         r.entity = &d->list[d->answer.steps];
-    if (is_of_taking(r.number) && r.entity->kind == VOGIEBURN_OPERATION)
+    if (checked && r.entity->kind == VOGIEBURN_OPERATION)
         find_operation(d, &r);
     find_note(d, &r);
     return r;
@@ -178,6 +182,14 @@ static void write_first_line(const writer *w, const draft *d, const refusal *r)
     fputc('\n', w->to);
 }
 
+static void note_nearest(const writer *w, const draft *d, const refusal *r)
+{
+    write_place(w, d->table_file, &r->line);
+    fputs("note: did you mean '", w->to);
+    write_span(w, (span){r->operation->name, r->operation->name_len});
+    fputs("'?\n", w->to);
+}
+
 /* `TABLE:LINE:COLUMN: note: bind takes [number], top first`. */
 static void note_operation(const writer *w, const draft *d, const refusal *r)
 {
@@ -208,9 +220,11 @@ void write_refusal(const writer *w, const draft *d)
 
     write_first_line(w, d, &r);
     write_excerpt(w, &r.at);
-    if (r.operation != NULL)
+    if (r.number == VOGIEBURN_UNKNOWN_OPERATION && r.operation != NULL)
+        note_nearest(w, d, &r);
+    if (is_of_taking(r.number) && r.operation != NULL)
         note_operation(w, d, &r);
-    else if (is_of_taking(r.number))
+    if (is_of_taking(r.number) && r.operation == NULL)
         note_sign(w, d, &r);
     if (r.note != NULL) {
         write_place(w, d->file, &r.noted);

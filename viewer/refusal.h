@@ -10,8 +10,8 @@ typedef struct {
     uint64_t number;
     position at;
     const vogieburn_entity *entity;       /* of 21 to 30: the refused one; else null */
-    const vogieburn_operation *operation; /* of 22 to 24 at an operation: its line of the table; else null */
-    position line;                        /* where that line stands */
+    const vogieburn_operation *operation; /* of 22 to 24 at an operation: it, in the table; of 21: one with a name like it; else null */
+    position line;                        /* where that operation stands in the table */
     const char *note;                     /* what stands elsewhere in the draft and has to do with it, in words; or null */
     position noted;                       /* where that stands */
 } refusal;

@@ -265,7 +265,7 @@ static bool parse_line(scanner *s)
     pass_word(s);
     end = s->at;
     if (end == from || is_digit(s->bytes[from]) || is_among(s->bytes[from], "+-?@=:"))
-        return expected(s, from, "an operation's name: visible US-ASCII, but none of ()[],%;#\"{} and no + - ? @ = : or digit first");
+        return expected(s, from, "an operation's name: visible US-ASCII, none of ()[],%;#\"{}, and first no + - ? @ = : or digit");
     if (s->bytes[end - 1] != ':')
         return expected(s, end, "':' right behind the name");
     if (span_is(between(s, from, end), span_of("kinds:")) && !has_arrow(s))

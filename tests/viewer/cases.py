@@ -108,6 +108,12 @@ def refusals():
         one(f'refusal {number}', said.returncode == 1 and first.startswith(f'<stdin>:{line}:{column}: refused {number}: ')
             and words in first, said)
     case('the unknown operation', ['-t', table], b'none |;', 1, has=b": operation unknown: 'none'\n")
+    near = file('near.table', b'warp: ->\nbind: ->\nselvedge: ->\ncut: ->\n')
+    for given, line, meant in (b'wrap', 1, b'warp'), (b'bin', 2, b'bind'), (b'bindd', 2, b'bind'), (b'slvedgf', 3, b'selvedge'), (b'ctu', 4, b'cut'):
+        case(f'a name like {meant}', ['-t', near], given + b' |;', 1, has=f'{near}:{line}:1: note: did you mean '.encode() + b"'" + meant + b"'?\n")
+    for given in b'weft', b'a', b'b' * 255:
+        said = run(['-t', near], given + b' |;')
+        one(f'no name like {given[:9]}', said.returncode == 1 and b'note' not in said.stdout, said)
     case('what is taken', ['-t', table], b'1 a |;', 1, has=f'{table}:2:1: note: a takes [number]\n'.encode())
     case('what ? takes', ['-t', table], b'?x |;', 1, has=b'<stdin>:1:1: note: ?x takes one cell, of any kind\n')
     case('what : takes', ['-t', table], b':x |;', 1, has=b'<stdin>:1:1: note: :x takes one cell, of the kind that the name has\n')

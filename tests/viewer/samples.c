@@ -131,7 +131,7 @@ static bool stands_twice(const vogieburn_operation *o)
     size_t same = 0;
 
     for (size_t i = 0; i < operations_of(&t); i++)
-        same += t.operations[i].name_len == o->name_len && memcmp(t.operations[i].name, o->name, o->name_len) == 0;
+        same += t.operations[i].name_len == o->name_len && memcmp(t.operations[i].name, o->name, sizeof o->name) == 0;
     return same > 1;
 }
 
