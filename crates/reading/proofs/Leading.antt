@@ -1,4 +1,5 @@
--- A token alone behind `[` brings a begin group, which is written before the token is ruled: all that can refuse the token there is known by
+-- A token alone behind `[` brings a begin group, which is written before the token is ruled: all that can refuse the token there is known
+-- by
 -- its byte, so that nothing does once the group is written, and what the token then does is told of the state before both.
 use mathlib.Core.Path.{_≡_, refl, sym, _∙_, ap}
 use mathlib.Core.Bool.{Bool, true, false, not, _&&_, true≢false}
@@ -13,8 +14,10 @@ use Rattle.reading.specs.Entity.{Entity, bare, sizes}
 use Rattle.reading.specs.Making.{Reader, Room, Judged, refuses, makes, holds, fitted, handled, within-groups, shortage}
 use Rattle.reading.specs.Making.{group-begins, group-ends, element-ends, regular, judged, closing}
 use Rattle.reading.specs.Judging.{bares, one, kindOf, written}
-use Rattle.reading.specs.Stepping.{Ready, Steady, openGroups, below, roomLeft, readerOf, agrees, Took, Goes, Stops, took, judgedAs, closingAs, Ruled}
-use Rattle.reading.specs.Stepping.{enteredBy, enteredGroups, leadOf, ledBy, Leads, Led, refused, leads, bringsBy, refusedBehind, ownBehind, Told, structural}
+use Rattle.reading.specs.Stepping.{Ready, Steady, openGroups, below, roomLeft, readerOf, agrees, Took, Goes, Stops, took, judgedAs}
+use Rattle.reading.specs.Stepping.{closingAs, Ruled}
+use Rattle.reading.specs.Stepping.{enteredBy, enteredGroups, leadOf, ledBy, Leads, Led, refused, leads, bringsBy, refusedBehind}
+use Rattle.reading.specs.Stepping.{ownBehind, Told, structural}
 use Rattle.reading.specs.declared.state.State.{State}
 use Rattle.reading.specs.declared.state.Step.{Step}
 use Rattle.reading.proofs.OpenGroups.{so-many}
@@ -254,7 +257,8 @@ module _ (c : ℕ) (range : c < 256) (alone : structural c ≡ true) (place : �
       → list₁ ≡ written list (s .entities) (s .text) (bares 6 place)
       → openGroups pushed (s .depth + 1) ≡ 1 ∷ openGroups groups (s .depth) → refusedBehind c (s .depth) ≡ 0
       → 6 * (s .entities + 1 + ownBehind c) ≤ length list
-      → Ruled c 0 (record { mode = 0; depth = s .depth + 1; entities = s .entities + 1; text = s .text }) list₁ pushed place r list′ groups′
+      → Ruled c 0 (record { mode = 0; depth = s .depth + 1; entities = s .entities + 1; text = s .text }) list₁ pushed place r list′
+      groups′
       → Ruled c 6 (record { mode = 0; depth = s .depth + 1; entities = s .entities; text = s .text }) list pushed place r list′ groups′
   unfolding Ruled readerOf within-groups
   raised-behind s list list₁ groups pushed other led so none fits ruled T text e ready =
@@ -262,7 +266,8 @@ module _ (c : ℕ) (range : c < 256) (alone : structural c ≡ true) (place : �
       let m = makes-of c (s .depth) _ (behind gs (s .depth) place (so-many groups (s .depth)) c range alone other T e) none in
       let inner : State = record { mode = 0; depth = s .depth + 1; entities = s .entities; text = s .text } in
       let t : State = record { mode = 0; depth = s .depth + 1; entities = s .entities + 1; text = s .text } in
-      let long : length list₁ ≡ length list = rw led (written-length list (s .entities) (s .text) (bares 6 place) (group-fits s list (ownBehind c) place fits)) in
+      let long : length list₁ ≡ length list = rw led (written-length list (s .entities) (s .text) (bares 6 place) (group-fits s list
+      (ownBehind c) place fits)) in
       let room-in : length list₁ / 6 ≡ length list / 6 = rw long in
       let all : 6 * (s .entities + 1 + length (m .es)) ≤ length list = rw (m .many) fits in
       let done =
@@ -339,7 +344,8 @@ module _ (c : ℕ) (range : c < 256) (alone : structural c ≡ true) (place : �
         either b
         (λ t. let says = may t in rw t (le-ltb (length list - 6 * s .entities) 6 (omega (arith, says .1))))
         (λ t. rw t) in
-        told s list groups place c b refl (l .shallow) free (enteredBy b s) refl pushed (l .array) (l .opens) (leadOf b) refl r list′ groups′
+        told s list groups place c b refl (l .shallow) free (enteredBy b s) refl pushed (l .array) (l .opens) (leadOf b) refl r list′
+        groups′
         (raised b s list list₁ groups pushed other (l .list-is) (l .opens) may (rw is at ruled))
 
 -- no begin group is brought

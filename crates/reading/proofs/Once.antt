@@ -1,4 +1,5 @@
--- Reading as `readWith` defines it, computed in one walk over the draft. The definition cuts each token's bytes from the draft's start; here
+-- Reading as `readWith` defines it, computed in one walk over the draft. The definition cuts each token's bytes from the draft's start;
+-- here
 -- the bytes from the last token on are carried along, and so is the draft's length. Long drafts are computed with it.
 use mathlib.Core.Path.{_≡_, refl, ap}
 use mathlib.Core.Bool.{true, false}

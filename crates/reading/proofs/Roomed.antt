@@ -1,4 +1,5 @@
--- A token with text, from the room for it to its entity: what refuses it before anything is written is what counting finds short, and behind the
+-- A token with text, from the room for it to its entity: what refuses it before anything is written is what counting finds short, and
+-- behind the
 -- begin group that it brings, or none, its six numbers and its bytes are its entity.
 use mathlib.Core.Path.{_≡_, refl, sym, _∙_, ap}
 use mathlib.Core.Bool.{Bool, true, false}

@@ -26,7 +26,8 @@ use Rattle.reading.specs.Entity.{sizes}
 use Rattle.reading.specs.Making.{fitted, handled, judged, command}
 use Rattle.reading.specs.Judging.{bares}
 use Rattle.reading.specs.Reading.{Read, refusal, before, entities}
-use Rattle.reading.specs.Stepping.{Contents, Ready, Steady, openGroups, roomLeft, readerOf, agrees, Took, Goes, Stops, judgedAs, closingAs}
+use Rattle.reading.specs.Stepping.{Contents, Ready, Steady, openGroups, roomLeft, readerOf, agrees, Took, Goes, Stops, judgedAs}
+use Rattle.reading.specs.Stepping.{closingAs}
 use Rattle.reading.specs.Stepping.{structural, worded, ahead}
 use Rattle.reading.specs.Rounds.{goesRound, On, Over, behindOf}
 use Rattle.reading.specs.declared.state.State.{State}
@@ -137,8 +138,10 @@ module _ (draft list text groups : List ℕ) (s : State) (at : ℕ) (there : at 
       -- in a metacommand no token brings a group
       pub by-itself :
           (T : List ℕ) (r : Took) (list′ groups′ : List ℕ)
-          → agrees (fitted (roomLeft s list text) (bares 0 at) (judgedAs 0 (readerOf s groups) at T [])) r s list text list′ text groups′ at
-          → agrees (handled limits (roomLeft s list text) (readerOf s groups) (closingAs 0 T) at (λ q. judgedAs 0 q at T [])) r s list text
+          → agrees (fitted (roomLeft s list text) (bares 0 at) (judgedAs 0 (readerOf s groups) at T [])) r s list text list′ text groups′
+          at
+          → agrees (handled limits (roomLeft s list text) (readerOf s groups) (closingAs 0 T) at (λ q. judgedAs 0 q at T [])) r s list
+          text
           list′ text groups′ at
       unfolding handled readerOf bares
       by-itself T r list′ groups′ a = rw commanding (rw commanding at a)

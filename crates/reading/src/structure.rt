@@ -89,8 +89,8 @@ fn own(c: u8) -> usize
     1
 }
 
-// Before the token `c` is ruled: where it brings a begin group, all that can refuse it is asked, 17 and 18 for the group first, and then the
-// group is written. So its own rules have one way, whether it brings one or not.
+// Before the token `c` is ruled: where it brings a begin group, all that can refuse it is asked, 17 and 18 for the group first, and then
+// the group is written. So its own rules have one way, whether it brings one or not.
 fn led(list: &mut [u32], groups: &mut [u32], s: State, c: u8, place: usize) -> Step
     requires { ⌜ (structural c ≡ true) × (eqb (s .mode) 2 ≡ false) × (place < 16384) × Steady s (now list) (now groups) place ⌝ }
     ensures { λ r. ⌜ Led c s (now (list .entry)) (now (groups .entry)) place r (now (list .exit)) (now (groups .exit)) ⌝ }

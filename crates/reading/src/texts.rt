@@ -93,8 +93,8 @@ fn sign(kind: u32) -> usize
     0
 }
 
-// Before a token with text and data of `size` bytes is written: 17 for the begin group that it brings, 18 where its entity or the group does
-// not fit, 19 where its bytes do not; else the group is written.
+// Before a token with text and data of `size` bytes is written: 17 for the begin group that it brings, 18 where its entity or the group
+// does not fit, 19 where its bytes do not; else the group is written.
 fn room(
     list: &mut [u32],
     text: &[u8],

@@ -15,6 +15,9 @@ use Rattle.scan.proofs as fn
 pub begins : OneAnswer fn.byte.begins.Kinds.ps fn.byte.begins.Kinds.r fn.byte.begins.Reads.Post
 begins κs given a b x y = one
 
+pub begins-at : OneAnswer fn.begins_at.Kinds.ps fn.begins_at.Kinds.r fn.begins_at.Reads.Post
+begins-at κs given a b x y = one
+
 pub ends : OneAnswer fn.byte.ends.Kinds.ps fn.byte.ends.Kinds.r fn.byte.ends.Reads.Post
 ends κs given a b x y = one
 

@@ -1,4 +1,5 @@
--- `reading::bare::two` meets its contract: it asks whether both entities fit, and writes one behind the other where they do. Assumes nothing.
+-- `reading::bare::two` meets its contract: it asks whether both entities fit, and writes one behind the other where they do. Assumes
+-- nothing.
 use mathlib.Core.Path.{refl}
 use mathlib.Core.List.{[], _∷_}
 use Prim.Native.Nat.{_+_}
@@ -22,7 +23,8 @@ stops-requires c κs = search needs
 returns : tie.Need-returns
 returns c =
     let a = c .before .before .before .args in
-    stopped (a .s) (a .list .now) (bareOf end-group (a .place) ∷ counting (a .kind) (a .place) (a .number) ∷ []) 0 (a .depth) (a .list .now) (c .stops .result) 2 refl
+    stopped (a .s) (a .list .now) (bareOf end-group (a .place) ∷ counting (a .kind) (a .place) (a .number) ∷ []) 0 (a .depth) (a .list
+    .now) (c .stops .result) 2 refl
     (c .before .before .before .pre .2) (omega (arith, c .before .if1 .taken)) (c .stops .ensures) refl
 
 mul-row : tie.Need-mul-row
@@ -68,7 +70,8 @@ returns-2 c =
     let row = c .before .before .before .before .before .before .before .row in
     let row2 = c .before .before .before .row2 in
     let enough = c .before .before .before .before .before .before .before .before .before .if1 .left in
-    went (a .s) (a .list .now) (bareOf end-group (a .place) ∷ counting (a .kind) (a .place) (a .number) ∷ []) 0 (a .depth) (row2 .last .0) (c .goes .result) 2
+    went (a .s) (a .list .now) (bareOf end-group (a .place) ∷ counting (a .kind) (a .place) (a .number) ∷ []) 0 (a .depth) (row2 .last .0)
+    (c .goes .result) 2
     (a .s .entities + 2) refl (p .2) (omega (arith, enough)) refl
     (two-rows (a .list .now) (a .s .entities) (a .s .text) (a .place) (row .last .0) (a .kind) (a .number) (p .0) (p .1) (row2 .last .0)
     (omega (arith, enough, p .2)) (row .ensures) (row2 .ensures))

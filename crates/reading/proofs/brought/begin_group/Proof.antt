@@ -35,8 +35,12 @@ same-length-2 c = search needs
 returns : tie.Need-returns
 returns c =
     let a = c .before .before .before .before .before .before .before .before .before .before .args in
-    let row = c .before .before .row in
-    (refl, group-row (a .list .now) (a .s .entities) (a .s .text) (a .place) (row .last .0) (row .ensures), c .before .before .before .before .before .before .push .ensures)
+    let row = c .before .before .row in (
+      refl,
+      group-row (a .list .now) (a .s .entities) (a .s .text) (a .place) (row .last .0) (row .ensures),
+      c .before .before .before
+          .before .before .before .push .ensures,
+    )
 
 pub begin-group-spec : {M : Type 1} → statement M
 begin-group-spec =

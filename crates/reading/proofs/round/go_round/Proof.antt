@@ -1,4 +1,5 @@
--- `reading::round::go_round` meets its contract: the byte tells whether whitespace is passed over, a token alone or a word is taken, or what is
+-- `reading::round::go_round` meets its contract: the byte tells whether whitespace is passed over, a token alone or a word is taken, or
+-- what is
 -- found there. Assumes nothing.
 use mathlib.Core.Path.{refl, sym, _∙_}
 use mathlib.Core.Logic.{⊎-elim}
@@ -7,7 +8,8 @@ use borrow.Author.Tests.{eq-eqb, ne-eqb}
 use Rattle.scan.proofs.Starts.{own-number}
 use Rattle.reading.specs.Stepping.{Ruled, structural}
 use Rattle.reading.specs.Rounds.{turn}
-use Rattle.reading.proofs.Turning.{ends-on, steady, blank-on, alone-on, by-itself, again-on, at-three, with-text, word-taken, word-on}
+use Rattle.reading.proofs.Turning.{ends-on, steady, blank-on, alone-on, by-itself, again-on, at-three, with-text, word-taken}
+use Rattle.reading.proofs.Turning.{word-on}
 use borrow.Author.Needs.{needs}
 use Rattle.reading.proofs.round.go_round.Statement.{statement}
 use Rattle.reading.proofs.round.go_round.Tie as tie
@@ -38,17 +40,28 @@ unfolding turn
 returns-2 c =
     let a = c .before .before .before .before .before .before .before .before .before .args in
     rw (c .on .ensures)
-    (blank-on (a .draft .now) (a .list .now) (a .text .now) (a .groups .now) (a .s) (a .at) (omega (arith, c .before .before .before .before .if1 .left)) (c .before .before .before .before .before .before .before .before .before .pre .1)
+    (blank-on (a .draft .now) (a .list .now) (a .text .now) (a .groups .now) (a .s) (a .at) (omega (
+      arith,
+      c .before .before .before
+          .before .if1 .left,
+    )) (c .before .before .before .before .before .before .before .before .before .pre .1)
     (own-number (a .draft .now) (a .at) 1 refl refl (sym (c .before .if2 .taken) ∙ c .before .before .begins-at .ensures)))
 
 structure-requires : tie.Need-structure-requires
 unfolding structural
 structure-requires c κs =
     let a = c .before .before .before .before .before .before .before .before .before .before .before .before .args in (
-      eq-eqb _ 3 (own-number (a .draft .now) (a .at) 3 refl refl (sym (c .before .before .before .if3 .taken) ∙ c .before .before .before .before .before .begins-at .ensures)),
+      eq-eqb _ 3 (own-number (a .draft .now) (a .at) 3 refl refl (sym (c .before .before .before .if3 .taken) ∙ c .before .before .before
+          .before .before .begins-at .ensures)),
       ne-eqb (a .s .mode) 2 (c .before .before .if4 .taken),
-      omega (arith, c .before .before .before .before .before .before .before .before .before .before .before .before .pre .0, c .before .before .before .before .before .before .before .if1 .left),
-      steady (a .s) (a .list .now) (a .text .now) (a .groups .now) (a .at) (c .before .before .before .before .before .before .before .before .before .before .before .before .pre .1),
+      omega (
+        arith,
+        c .before .before .before .before .before .before .before .before .before .before .before .before .pre .0,
+        c .before
+            .before .before .before .before .before .before .if1 .left,
+      ),
+      steady (a .s) (a .list .now) (a .text .now) (a .groups .now) (a .at) (c .before .before .before .before .before .before .before
+          .before .before .before .before .before .pre .1),
     )
 
 add-behind : tie.Need-add-behind
@@ -65,11 +78,19 @@ same-length-2 c = search needs
 
 returns-3 : tie.Need-returns-3
 returns-3 c =
-    let a = c .before .before .before .before .before .before .before .before .before .before .before .before .before .before .before .before .before .before .args in
+    let a = c .before .before .before .before .before .before .before .before .before .before .before .before .before .before .before
+    .before .before .before .args in
     let after-structure = c .before .before .before .before .before .structure in
-    let ready = c .before .before .before .before .before .before .before .before .before .before .before .before .before .before .before .before .before .before .pre .1 in
+    let ready = c .before .before .before .before .before .before .before .before .before .before .before .before .before .before .before
+    .before .before .before .pre .1 in
     rw (c .behind .ensures)
-    (alone-on (a .draft .now) (a .list .now) (a .text .now) (a .groups .now) (a .s) (a .at) (omega (arith, c .before .before .before .before .before .before .before .before .before .before .before .before .before .if1 .left)) ready (own-number (a .draft .now) (a .at) 3 refl refl (sym (c .before .before .before .before .before .before .before .before .before .if3 .taken) ∙ c .before .before .before .before .before .before .before .before .before .before .before .begins-at .ensures)) _
+    (alone-on (a .draft .now) (a .list .now) (a .text .now) (a .groups .now) (a .s) (a .at) (omega (
+      arith,
+      c .before .before .before
+          .before .before .before .before .before .before .before .before .before .before .if1 .left,
+    )) ready (own-number (a .draft .now) (a .at)
+    3 refl refl (sym (c .before .before .before .before .before .before .before .before .before .if3 .taken) ∙ c .before .before .before
+    .before .before .before .before .before .before .before .before .begins-at .ensures)) _
     (after-structure .last .0) (after-structure .last .1 .0) (λ T is. after-structure .ensures T (a .text .now) is ready)
     (omega (arith, after-structure .kept)))
 
@@ -81,8 +102,14 @@ unfolding turn
 returns-4 c =
     let a = c .before .before .before .before .before .before .before .before .before .before .before .before .args in
     rw (c .over2 .ensures)
-    (again-on (a .draft .now) (a .list .now) (a .text .now) (a .groups .now) (a .s) (a .at) (omega (arith, c .before .before .before .before .before .before .before .if1 .left)) (c .before .before .before .before .before .before .before .before .before .before .before .before .pre .1)
-    (own-number (a .draft .now) (a .at) 3 refl refl (sym (c .before .before .before .if3 .taken) ∙ c .before .before .before .before .before .begins-at .ensures)) (c .before .before .if4 .left) (c .before .if5 .taken))
+    (again-on (a .draft .now) (a .list .now) (a .text .now) (a .groups .now) (a .s) (a .at) (omega (
+      arith,
+      c .before .before .before
+          .before .before .before .before .if1 .left,
+    )) (c .before .before .before .before .before .before .before .before .before .before
+    .before .before .pre .1)
+    (own-number (a .draft .now) (a .at) 3 refl refl (sym (c .before .before .before .if3 .taken) ∙ c .before .before .before .before
+    .before .begins-at .ensures)) (c .before .before .if4 .left) (c .before .if5 .taken))
 
 metacommand-ends-requires : tie.Need-metacommand-ends-requires
 metacommand-ends-requires c κs = search needs
@@ -102,14 +129,28 @@ same-length-4 c = search needs
 returns-5 : tie.Need-returns-5
 unfolding Ruled
 returns-5 c =
-    let a = c .before .before .before .before .before .before .before .before .before .before .before .before .before .before .before .before .before .before .args in
+    let a = c .before .before .before .before .before .before .before .before .before .before .before .before .before .before .before
+    .before .before .before .args in
     let after-ends = c .before .before .before .metacommand-ends in
-    let ready = c .before .before .before .before .before .before .before .before .before .before .before .before .before .before .before .before .before .before .pre .1 in
-    let three = (own-number (a .draft .now) (a .at) 3 refl refl (sym (c .before .before .before .before .before .before .before .before .before .if3 .taken) ∙ c .before .before .before .before .before .before .before .before .before .before .before .begins-at .ensures)) in
+    let ready = c .before .before .before .before .before .before .before .before .before .before .before .before .before .before .before
+    .before .before .before .pre .1 in
+    let three = (own-number (a .draft .now) (a .at) 3 refl refl (sym (c .before .before .before .before .before .before .before .before
+    .before .if3 .taken) ∙ c .before .before .before .before .before .before .before .before .before .before .before .begins-at .ensures))
+    in
     let two = c .before .before .before .before .before .before .before .before .if4 .left in
     rw (c .behind2 .ensures)
-    (alone-on (a .draft .now) (a .list .now) (a .text .now) (a .groups .now) (a .s) (a .at) (omega (arith, c .before .before .before .before .before .before .before .before .before .before .before .before .before .if1 .left)) ready three _ (after-ends .last .0) (a .groups .now)
-    (λ T is. by-itself (a .draft .now) (a .list .now) (a .text .now) (a .groups .now) (a .s) (a .at) (omega (arith, c .before .before .before .before .before .before .before .before .before .before .before .before .before .if1 .left)) ready three two T _ (after-ends .last .0) (a .groups .now)
+    (alone-on (a .draft .now) (a .list .now) (a .text .now) (a .groups .now) (a .s) (a .at) (omega (
+      arith,
+      c .before .before .before
+          .before .before .before .before .before .before .before .before .before .before .if1 .left,
+    )) ready three _ (after-ends .last .0) (a
+    .groups .now)
+    (λ T is. by-itself (a .draft .now) (a .list .now) (a .text .now) (a .groups .now) (a .s) (a .at) (omega (
+      arith,
+      c .before .before
+          .before .before .before .before .before .before .before .before .before .before .before .if1 .left,
+    )) ready three two T _ (after-ends
+    .last .0) (a .groups .now)
     (after-ends .ensures T (a .text .now) (is ∙ c .before .before .before .before .before .before .if6 .taken) ready))
     (omega (arith, after-ends .kept)))
 
@@ -130,12 +171,14 @@ take-word-requires c κs =
     let e = told .ensures (λ z. omega (arith, c .before .before .before .if7 .taken, z)) in
     let one = c .before .before .before .if7 .taken in
     let there = c .before .before .before .before .before .before .before .before .before .if1 .left in
-    let t = word-taken (a .draft .now) (a .list .now) (a .text .now) (a .groups .now) (a .s) (a .at) (omega (arith, there)) (p .1) (told .result .at) (e .simple one) in (
+    let t = word-taken (a .draft .now) (a .list .now) (a .text .now) (a .groups .now) (a .s) (a .at) (omega (arith, there)) (p .1) (told
+    .result .at) (e .simple one) in (
       refl,
       with-text _ (a .s .mode)
           (λ three.
           ⊎-elim (λ k. (k .1 .left, k .2 .left, k .3 .left))
-          (λ k. absurd (k .left (c .before .before .before .before .before .before .before .begins-at .ensures ∙ at-three (a .draft .now) (a .at) three))) (c .before .before .before .before .before .if3 .came)),
+          (λ k. absurd (k .left (c .before .before .before .before .before .before .before .begins-at .ensures ∙ at-three (a .draft .now)
+          (a .at) three))) (c .before .before .before .before .before .if3 .came)),
       omega (arith, e .some one),
       t .0,
       omega (arith, p .0, there),
@@ -157,13 +200,26 @@ same-length-7 c = search needs
 
 returns-6 : tie.Need-returns-6
 returns-6 c =
-    let a = c .before .before .before .before .before .before .before .before .before .before .before .before .before .before .before .before .before .before .before .before .before .before .args in
-    let p = c .before .before .before .before .before .before .before .before .before .before .before .before .before .before .before .before .before .before .before .before .before .before .pre in
+    let a = c .before .before .before .before .before .before .before .before .before .before .before .before .before .before .before
+    .before .before .before .before .before .before .before .args in
+    let p = c .before .before .before .before .before .before .before .before .before .before .before .before .before .before .before
+    .before .before .before .before .before .before .before .pre in
     let told = c .before .before .before .before .before .before .before .before .before .before .before .before .worded in
-    let e = told .ensures (λ z. omega (arith, c .before .before .before .before .before .before .before .before .before .before .before .if7 .taken, z)) in
+    let e = told .ensures (λ z. omega (
+      arith,
+      c .before .before .before .before .before .before .before .before .before .before .before
+          .if7 .taken,
+      z,
+    )) in
     let after = c .before .before .before .before .before .before .before .take-word in
     rw (c .behind3 .ensures)
-    (word-on (a .draft .now) (a .list .now) (a .text .now) (a .groups .now) (a .s) (a .at) (omega (arith, c .before .before .before .before .before .before .before .before .before .before .before .before .before .before .before .before .before .if1 .left)) (p .1) (told .result .at) (e .simple (c .before .before .before .before .before .before .before .before .before .before .before .if7 .taken)) _
+    (word-on (a .draft .now) (a .list .now) (a .text .now) (a .groups .now) (a .s) (a .at) (omega (
+      arith,
+      c .before .before .before
+          .before .before .before .before .before .before .before .before .before .before .before .before .before .before .if1 .left,
+    )) (p .1)
+    (told .result .at) (e .simple (c .before .before .before .before .before .before .before .before .before .before .before .if7 .taken))
+    _
     (after .last .1 .0) (after .last .1 .1 .0) (after .last .1 .1 .1 .0) (after .ensures) (omega (arith, after .kept))
     (omega (arith, after .kept)))
 
@@ -174,7 +230,8 @@ piece-requires c κs =
       p .1,
       omega (arith, c .before .before .before .before .before .before .before .before .before .if1 .left),
       c .before .before .before .before .before .before .before .begins-at .ensures,
-      λ e. ⊎-elim (λ k. (k .1 .left, k .2 .left, k .3 .left)) (λ k. absurd (k .left e)) (c .before .before .before .before .before .if3 .came),
+      λ e. ⊎-elim (λ k. (k .1 .left, k .2 .left, k .3 .left)) (λ k. absurd (k .left e)) (c .before .before .before .before .before .if3
+          .came),
       c .before .before .before .before .worded .ensures,
     )
 

@@ -1,4 +1,5 @@
--- `reading::structure::ruled` meets its contract: each byte's own rules are those of the token that it is alone. Below `*` what is neither `(`
+-- `reading::structure::ruled` meets its contract: each byte's own rules are those of the token that it is alone. Below `*` what is
+-- neither `(`
 -- nor `)` is `%`, and above what is none of , [ ] is `;`, which is 11. Assumes nothing.
 use mathlib.Core.Path.{refl}
 use native.Mathlib.Omega.{arith}
@@ -21,7 +22,8 @@ returns : tie.Need-returns
 returns c =
     let a = c .before .before .before .before .before .before .before .before .before .before .before .args in
     let after = c .before .before .before .before .group-begins in
-    of-byte 0 (a .s) (a .list .now) (a .groups .now) (a .place) (a .c) 0x28 (c .before .before .before .before .before .before .before .if2 .taken) (after .result) (after .last .0) (after .last .1 .0) (after .ensures)
+    of-byte 0 (a .s) (a .list .now) (a .groups .now) (a .place) (a .c) 0x28 (c .before .before .before .before .before .before .before
+    .if2 .taken) (after .result) (after .last .0) (after .last .1 .0) (after .ensures)
 
 group-ends-requires : tie.Need-group-ends-requires
 group-ends-requires c κs = search needs
@@ -36,7 +38,8 @@ returns-2 : tie.Need-returns-2
 returns-2 c =
     let a = c .before .before .before .before .before .before .before .before .before .before .before .before .args in
     let after = c .before .before .before .before .group-ends in
-    of-byte 0 (a .s) (a .list .now) (a .groups .now) (a .place) (a .c) 0x29 (c .before .before .before .before .before .before .before .if3 .taken) (after .result) (after .last .0) (after .last .1 .0) (after .ensures)
+    of-byte 0 (a .s) (a .list .now) (a .groups .now) (a .place) (a .c) 0x29 (c .before .before .before .before .before .before .before
+    .if3 .taken) (after .result) (after .last .0) (after .last .1 .0) (after .ensures)
 
 metacommand-begins-requires : tie.Need-metacommand-begins-requires
 metacommand-begins-requires c κs = search needs
@@ -51,7 +54,11 @@ returns-3 : tie.Need-returns-3
 returns-3 c =
     let a = c .before .before .before .before .before .before .before .before .before .before .args in
     let after = c .before .before .metacommand-begins in
-    of-byte 0 (a .s) (a .list .now) (a .groups .now) (a .place) (a .c) 0x25 (percent (a .c) (c .before .before .before .before .before .before .before .before .before .before .fits .c .fits) (c .before .before .before .before .before .before .before .before .before .before .pre .0) (c .before .before .before .before .before .before .before .if1 .taken) (c .before .before .before .before .before .before .if2 .left) (c .before .before .before .before .before .if3 .left)) (after .result) (after .last .0) (a .groups .now) (after .ensures)
+    of-byte 0 (a .s) (a .list .now) (a .groups .now) (a .place) (a .c) 0x25 (percent (a .c) (c .before .before .before .before .before
+    .before .before .before .before .before .fits .c .fits) (c .before .before .before .before .before .before .before .before .before
+    .before .pre .0) (c .before .before .before .before .before .before .before .if1 .taken) (c .before .before .before .before .before
+    .before .if2 .left) (c .before .before .before .before .before .if3 .left)) (after .result) (after .last .0) (a .groups .now) (after
+    .ensures)
 
 element-ends-requires : tie.Need-element-ends-requires
 element-ends-requires c κs = search needs
@@ -66,7 +73,8 @@ returns-4 : tie.Need-returns-4
 returns-4 c =
     let a = c .before .before .before .before .before .before .before .before .before .before .before .args in
     let after = c .before .before .before .before .element-ends in
-    of-byte 0 (a .s) (a .list .now) (a .groups .now) (a .place) (a .c) 0x2C (c .before .before .before .before .before .before .before .if4 .taken) (after .result) (after .last .0) (after .last .1 .0) (after .ensures)
+    of-byte 0 (a .s) (a .list .now) (a .groups .now) (a .place) (a .c) 0x2C (c .before .before .before .before .before .before .before
+    .if4 .taken) (after .result) (after .last .0) (after .last .1 .0) (after .ensures)
 
 array-begins-requires : tie.Need-array-begins-requires
 array-begins-requires c κs = search needs
@@ -76,7 +84,8 @@ returns-5 c =
     let start = c .before .before .before .before .before .before in
     let a = start .args in
     let after = c .array-begins in
-    of-byte 0 (a .s) (a .list .now) (a .groups .now) (a .place) (a .c) 0x5B (c .before .if5 .taken) (after .result) (a .list .now) (a .groups .now)
+    of-byte 0 (a .s) (a .list .now) (a .groups .now) (a .place) (a .c) 0x5B (c .before .if5 .taken) (after .result) (a .list .now) (a
+    .groups .now)
     (array-allowed (a .s) (a .list .now) (a .groups .now) (a .place) (after .result) (a .list .now) (start .pre .3) (start .pre .1) refl
     (after .ensures))
 
@@ -93,7 +102,8 @@ returns-6 : tie.Need-returns-6
 returns-6 c =
     let a = c .before .before .before .before .before .before .before .before .before .before .before .args in
     let after = c .before .before .array-ends in
-    of-byte 0 (a .s) (a .list .now) (a .groups .now) (a .place) (a .c) 0x5D (c .before .before .before .before .before .if6 .taken) (after .result) (after .last .0) (a .groups .now) (after .ensures)
+    of-byte 0 (a .s) (a .list .now) (a .groups .now) (a .place) (a .c) 0x5D (c .before .before .before .before .before .if6 .taken) (after
+    .result) (after .last .0) (a .groups .now) (after .ensures)
 
 stops-requires : tie.Need-stops-requires
 stops-requires c κs = search needs
@@ -105,7 +115,8 @@ returns-7 c =
     let p = start .pre in
     let high = c .before .before .before .before .if1 .left in
     let is =
-    semicolon (a .c) (start .fits .c .fits) (p .0) (λ e. omega (arith, e, high)) (λ e. omega (arith, e, high)) (c .before .before .if5 .left)
+    semicolon (a .c) (start .fits .c .fits) (p .0) (λ e. omega (arith, e, high)) (λ e. omega (arith, e, high)) (c .before .before .if5
+    .left)
     (c .before .before .before .if4 .left) (c .before .if6 .left) (λ e. omega (arith, e, high)) in
     stray 0 (a .s) (a .list .now) (a .groups .now) (a .place) (a .c) is (p .1) (c .stops .result) (c .stops .ensures)
 

@@ -14,7 +14,11 @@ returns : tie.Need-returns
 unfolding wordKind
 returns c =
     let b = c .before .args .c in (
-      constant wordKind 9 (λ k. leb 0x30 k && ltb k 0x3A) refl b (search needs) (rw (le-leb 0x30 b (c .if1 .taken), lt-ltb b 0x3A (c .before .pre))),
+      constant wordKind 9 (λ k. leb 0x30 k && ltb k 0x3A) refl b (search needs) (rw (
+        le-leb 0x30 b (c .if1 .taken),
+        lt-ltb b 0x3A (c
+            .before .pre),
+      )),
       omega arith,
       omega arith,
     )
@@ -41,7 +45,12 @@ returns-4 : tie.Need-returns-4
 unfolding wordKind
 returns-4 c =
     let b = c .before .before .before .args .c in (
-      constant wordKind 16 (λ k. ltb k 0x30 && (not (eqb k 0x2D) && not (eqb k 0x2B))) refl b (search needs) (rw (lt-ltb b 0x30 (c .before .before .if1 .left), ne-eqb b 0x2D (c .before .if2 .left), ne-eqb b 0x2B (c .if3 .left))),
+      constant wordKind 16 (λ k. ltb k 0x30 && (not (eqb k 0x2D) && not (eqb k 0x2B))) refl b (search needs) (rw (
+        lt-ltb b 0x30 (c .before
+            .before .if1 .left),
+        ne-eqb b 0x2D (c .before .if2 .left),
+        ne-eqb b 0x2B (c .if3 .left),
+      )),
       omega arith,
       omega arith,
     )

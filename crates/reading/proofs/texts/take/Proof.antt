@@ -1,4 +1,5 @@
--- `reading::texts::take` meets its contract: where there is no room nothing is written, and else its row, its text and its data, if there is
+-- `reading::texts::take` meets its contract: where there is no room nothing is written, and else its row, its text and its data, if there
+-- is
 -- some, are its entity behind the begin group that it brings. Assumes nothing.
 use mathlib.Core.Path.{_≡_, _∙_, ap}
 use mathlib.Core.List.{_++_}
@@ -55,20 +56,24 @@ same-length-3 c = search needs
 
 returns : tie.Need-returns
 returns c =
-    let start = c .before .before .before .before .before .before .before .before .before .before .before .before .before .before .before .before .before .before .before in
+    let start = c .before .before .before .before .before .before .before .before .before .before .before .before .before .before .before
+    .before .before .before .before in
     let a = start .args in
     let p = start .pre in
     let b = getD (a .draft .now) (a .p .place) 0 in
     let cut = c .before .before .before .before .before .before .before .before .before .before .before .before .sign in
     let kinded = c .before .before .before .before .before .before .before .before .before .before .before .before .before .kind in
     let got = c .before .before .before .before .before .before .before .room in
-    stopped-room (a .draft .now) (a .s) (a .list .now) (a .text .now) (a .groups .now) (a .p .sort) (a .p .place) (a .p .prefix) (a .p .from)
-    (a .p .bytes) (cut .result) (kinded .result) (p .0) (p .7) (p .2) (p .1) (kinded .ensures .0) (cut .ensures .0) (p .8) (got .result) (c .stops .result) (got .last .0) (got .last .1 .1 .0) (got .ensures) (c .before .if1 .taken)
+    stopped-room (a .draft .now) (a .s) (a .list .now) (a .text .now) (a .groups .now) (a .p .sort) (a .p .place) (a .p .prefix) (a .p
+    .from)
+    (a .p .bytes) (cut .result) (kinded .result) (p .0) (p .7) (p .2) (p .1) (kinded .ensures .0) (cut .ensures .0) (p .8) (got .result)
+    (c .stops .result) (got .last .0) (got .last .1 .1 .0) (got .ensures) (c .before .if1 .taken)
     (c .stops .ensures)
 
 mul-row : tie.Need-mul-row
 mul-row c =
-    let start = c .before .before .before .before .before .before .before .before .before .before .before .before .before .before .before .before .before .before .before in
+    let start = c .before .before .before .before .before .before .before .before .before .before .before .before .before .before .before
+    .before .before .before .before in
     let a = start .args in
     let p = start .pre in
     let b = getD (a .draft .now) (a .p .place) 0 in
@@ -76,7 +81,8 @@ mul-row c =
     let kinded = c .before .before .before .before .before .before .before .before .before .before .before .before .before .kind in
     let got = c .before .before .before .before .before .before .before .room in
     let f =
-    room-found (a .s) (a .list .now) (a .text .now) (a .groups .now) (a .p .place) (a .p .prefix - cut .result + a .p .bytes) (got .result) (got .last .0)
+    room-found (a .s) (a .list .now) (a .text .now) (a .groups .now) (a .p .place) (a .p .prefix - cut .result + a .p .bytes) (got
+    .result) (got .last .0)
     (got .last .1 .1 .0) (got .ensures) (c .before .if1 .left) in
     omega (arith, f .held, f .room, p .8 .held, start .good .1 .0)
 
@@ -94,7 +100,8 @@ cast-row-4 c = search needs
 
 row-requires : tie.Need-row-requires
 row-requires c κs =
-    let start = c .before .before .before .before .before .before .before .before .before .before .before .before .before .before .before .before .before .before .before in
+    let start = c .before .before .before .before .before .before .before .before .before .before .before .before .before .before .before
+    .before .before .before .before in
     let a = start .args in
     let p = start .pre in
     let b = getD (a .draft .now) (a .p .place) 0 in
@@ -102,7 +109,8 @@ row-requires c κs =
     let kinded = c .before .before .before .before .before .before .before .before .before .before .before .before .before .kind in
     let got = c .before .before .before .before .before .before .before .room in
     let f =
-    room-found (a .s) (a .list .now) (a .text .now) (a .groups .now) (a .p .place) (a .p .prefix - cut .result + a .p .bytes) (got .result) (got .last .0)
+    room-found (a .s) (a .list .now) (a .text .now) (a .groups .now) (a .p .place) (a .p .prefix - cut .result + a .p .bytes) (got
+    .result) (got .last .0)
     (got .last .1 .1 .0) (got .ensures) (c .before .if1 .left) in
     omega (arith, f .held, f .room, got .kept, p .8 .held)
 
@@ -111,15 +119,19 @@ add-as-it-stands c = search needs
 
 as-it-stands-requires : tie.Need-as-it-stands-requires
 as-it-stands-requires c κs =
-    let start = c .before .before .before .before .before .before .before .before .before .before .before .before .before .before .before .before .before .before .before .before .before .before .before in
+    let start = c .before .before .before .before .before .before .before .before .before .before .before .before .before .before .before
+    .before .before .before .before .before .before .before .before in
     let a = start .args in
     let p = start .pre in
     let b = getD (a .draft .now) (a .p .place) 0 in
-    let cut = c .before .before .before .before .before .before .before .before .before .before .before .before .before .before .before .before .sign in
-    let kinded = c .before .before .before .before .before .before .before .before .before .before .before .before .before .before .before .before .before .kind in
+    let cut = c .before .before .before .before .before .before .before .before .before .before .before .before .before .before .before
+    .before .sign in
+    let kinded = c .before .before .before .before .before .before .before .before .before .before .before .before .before .before .before
+    .before .before .kind in
     let got = c .before .before .before .before .before .before .before .before .before .before .before .room in
     let f =
-    room-found (a .s) (a .list .now) (a .text .now) (a .groups .now) (a .p .place) (a .p .prefix - cut .result + a .p .bytes) (got .result) (got .last .0)
+    room-found (a .s) (a .list .now) (a .text .now) (a .groups .now) (a .p .place) (a .p .prefix - cut .result + a .p .bytes) (got
+    .result) (got .last .0)
     (got .last .1 .1 .0) (got .ensures) (c .before .before .before .before .before .if1 .left) in (
       omega (arith, f .free, p .8 .used),
       text-there (a .draft .now) (a .list .now) (a .text .now) (a .groups .now) (a .s) 0 (kinded .result) (a .p .place) (a .p .prefix)
@@ -128,79 +140,114 @@ as-it-stands-requires c κs =
 
 sub-raw : tie.Need-sub-raw
 sub-raw c =
-    omega (arith, c .before .before .before .before .before .before .before .before .before .before .before .before .before .before .before .before .before .before .before .before .before .before .before .before .before .before .before .before .pre .6)
+    omega (
+      arith,
+      c .before .before .before .before .before .before .before .before .before .before .before .before .before .before
+          .before .before .before .before .before .before .before .before .before .before .before .before .before .before .pre .6,
+    )
 
 sub-raw-2 : tie.Need-sub-raw-2
 sub-raw-2 c =
-    omega (arith, c .before .before .before .before .before .before .before .before .before .before .before .before .before .before .before .before .before .before .before .before .before .before .before .before .before .before .before .before .pre .6)
+    omega (
+      arith,
+      c .before .before .before .before .before .before .before .before .before .before .before .before .before .before
+          .before .before .before .before .before .before .before .before .before .before .before .before .before .before .pre .6,
+    )
 
 add-fill : tie.Need-add-fill
 add-fill c =
-    let start = c .before .before .before .before .before .before .before .before .before .before .before .before .before .before .before .before .before .before .before .before .before .before .before .before .before .before .before .before .before in
+    let start = c .before .before .before .before .before .before .before .before .before .before .before .before .before .before .before
+    .before .before .before .before .before .before .before .before .before .before .before .before .before .before in
     let a = start .args in
     let p = start .pre in
     let b = getD (a .draft .now) (a .p .place) 0 in
-    let cut = c .before .before .before .before .before .before .before .before .before .before .before .before .before .before .before .before .before .before .before .before .before .before .sign in
-    let kinded = c .before .before .before .before .before .before .before .before .before .before .before .before .before .before .before .before .before .before .before .before .before .before .before .kind in
-    let got = c .before .before .before .before .before .before .before .before .before .before .before .before .before .before .before .before .before .room in
+    let cut = c .before .before .before .before .before .before .before .before .before .before .before .before .before .before .before
+    .before .before .before .before .before .before .before .sign in
+    let kinded = c .before .before .before .before .before .before .before .before .before .before .before .before .before .before .before
+    .before .before .before .before .before .before .before .before .kind in
+    let got = c .before .before .before .before .before .before .before .before .before .before .before .before .before .before .before
+    .before .before .room in
     let f =
-    room-found (a .s) (a .list .now) (a .text .now) (a .groups .now) (a .p .place) (a .p .prefix - cut .result + a .p .bytes) (got .result) (got .last .0)
-    (got .last .1 .1 .0) (got .ensures) (c .before .before .before .before .before .before .before .before .before .before .before .if1 .left) in
+    room-found (a .s) (a .list .now) (a .text .now) (a .groups .now) (a .p .place) (a .p .prefix - cut .result + a .p .bytes) (got
+    .result) (got .last .0)
+    (got .last .1 .1 .0) (got .ensures) (c .before .before .before .before .before .before .before .before .before .before .before .if1
+    .left) in
     omega (arith, f .free, p .8 .used, start .good .1 .1 .0)
 
 fill-requires : tie.Need-fill-requires
 fill-requires c κs =
-    let start = c .before .before .before .before .before .before .before .before .before .before .before .before .before .before .before .before .before .before .before .before .before .before .before .before .before .before .before .before .before in
+    let start = c .before .before .before .before .before .before .before .before .before .before .before .before .before .before .before
+    .before .before .before .before .before .before .before .before .before .before .before .before .before .before in
     let a = start .args in
     let p = start .pre in
     let b = getD (a .draft .now) (a .p .place) 0 in
-    let cut = c .before .before .before .before .before .before .before .before .before .before .before .before .before .before .before .before .before .before .before .before .before .before .sign in
-    let kinded = c .before .before .before .before .before .before .before .before .before .before .before .before .before .before .before .before .before .before .before .before .before .before .before .kind in
-    let got = c .before .before .before .before .before .before .before .before .before .before .before .before .before .before .before .before .before .room in
+    let cut = c .before .before .before .before .before .before .before .before .before .before .before .before .before .before .before
+    .before .before .before .before .before .before .before .sign in
+    let kinded = c .before .before .before .before .before .before .before .before .before .before .before .before .before .before .before
+    .before .before .before .before .before .before .before .before .kind in
+    let got = c .before .before .before .before .before .before .before .before .before .before .before .before .before .before .before
+    .before .before .room in
     let f =
-    room-found (a .s) (a .list .now) (a .text .now) (a .groups .now) (a .p .place) (a .p .prefix - cut .result + a .p .bytes) (got .result) (got .last .0)
-    (got .last .1 .1 .0) (got .ensures) (c .before .before .before .before .before .before .before .before .before .before .before .if1 .left) in
+    room-found (a .s) (a .list .now) (a .text .now) (a .groups .now) (a .p .place) (a .p .prefix - cut .result + a .p .bytes) (got
+    .result) (got .last .0)
+    (got .last .1 .1 .0) (got .ensures) (c .before .before .before .before .before .before .before .before .before .before .before .if1
+    .left) in
     (omega (arith, f .free, p .8 .used, c .before .before .before .before .before .as-it-stands .kept), p .7 .string-long, p .9)
 
 add-goes : tie.Need-add-goes
 add-goes c =
-    let start = c .before .before .before .before .before .before .before .before .before .before .before .before .before .before .before .before .before .before .before .before .before .before .before .before .before .before .before in
+    let start = c .before .before .before .before .before .before .before .before .before .before .before .before .before .before .before
+    .before .before .before .before .before .before .before .before .before .before .before .before in
     let a = start .args in
     let p = start .pre in
     let b = getD (a .draft .now) (a .p .place) 0 in
-    let cut = c .before .before .before .before .before .before .before .before .before .before .before .before .before .before .before .before .before .before .before .before .sign in
-    let kinded = c .before .before .before .before .before .before .before .before .before .before .before .before .before .before .before .before .before .before .before .before .before .kind in
-    let got = c .before .before .before .before .before .before .before .before .before .before .before .before .before .before .before .room in
+    let cut = c .before .before .before .before .before .before .before .before .before .before .before .before .before .before .before
+    .before .before .before .before .before .sign in
+    let kinded = c .before .before .before .before .before .before .before .before .before .before .before .before .before .before .before
+    .before .before .before .before .before .before .kind in
+    let got = c .before .before .before .before .before .before .before .before .before .before .before .before .before .before .before
+    .room in
     let f =
-    room-found (a .s) (a .list .now) (a .text .now) (a .groups .now) (a .p .place) (a .p .prefix - cut .result + a .p .bytes) (got .result) (got .last .0)
+    room-found (a .s) (a .list .now) (a .text .now) (a .groups .now) (a .p .place) (a .p .prefix - cut .result + a .p .bytes) (got
+    .result) (got .last .0)
     (got .last .1 .1 .0) (got .ensures) (c .before .before .before .before .before .before .before .before .before .if1 .left) in
     omega (arith, f .held, f .room, p .8 .held, start .good .1 .0)
 
 add-goes-2 : tie.Need-add-goes-2
 add-goes-2 c =
-    let start = c .before .before .before .before .before .before .before .before .before .before .before .before .before .before .before .before .before .before .before .before .before .before .before .before .before .before .before in
+    let start = c .before .before .before .before .before .before .before .before .before .before .before .before .before .before .before
+    .before .before .before .before .before .before .before .before .before .before .before .before in
     let a = start .args in
     let p = start .pre in
     let b = getD (a .draft .now) (a .p .place) 0 in
-    let cut = c .before .before .before .before .before .before .before .before .before .before .before .before .before .before .before .before .before .before .before .before .sign in
-    let kinded = c .before .before .before .before .before .before .before .before .before .before .before .before .before .before .before .before .before .before .before .before .before .kind in
-    let got = c .before .before .before .before .before .before .before .before .before .before .before .before .before .before .before .room in
+    let cut = c .before .before .before .before .before .before .before .before .before .before .before .before .before .before .before
+    .before .before .before .before .before .sign in
+    let kinded = c .before .before .before .before .before .before .before .before .before .before .before .before .before .before .before
+    .before .before .before .before .before .before .kind in
+    let got = c .before .before .before .before .before .before .before .before .before .before .before .before .before .before .before
+    .room in
     let f =
-    room-found (a .s) (a .list .now) (a .text .now) (a .groups .now) (a .p .place) (a .p .prefix - cut .result + a .p .bytes) (got .result) (got .last .0)
+    room-found (a .s) (a .list .now) (a .text .now) (a .groups .now) (a .p .place) (a .p .prefix - cut .result + a .p .bytes) (got
+    .result) (got .last .0)
     (got .last .1 .1 .0) (got .ensures) (c .before .before .before .before .before .before .before .before .before .if1 .left) in
     omega (arith, f .free, p .8 .used, start .good .1 .1 .0)
 
 add-goes-3 : tie.Need-add-goes-3
 add-goes-3 c =
-    let start = c .before .before .before .before .before .before .before .before .before .before .before .before .before .before .before .before .before .before .before .before .before .before .before .before .before .before .before in
+    let start = c .before .before .before .before .before .before .before .before .before .before .before .before .before .before .before
+    .before .before .before .before .before .before .before .before .before .before .before .before in
     let a = start .args in
     let p = start .pre in
     let b = getD (a .draft .now) (a .p .place) 0 in
-    let cut = c .before .before .before .before .before .before .before .before .before .before .before .before .before .before .before .before .before .before .before .before .sign in
-    let kinded = c .before .before .before .before .before .before .before .before .before .before .before .before .before .before .before .before .before .before .before .before .before .kind in
-    let got = c .before .before .before .before .before .before .before .before .before .before .before .before .before .before .before .room in
+    let cut = c .before .before .before .before .before .before .before .before .before .before .before .before .before .before .before
+    .before .before .before .before .before .sign in
+    let kinded = c .before .before .before .before .before .before .before .before .before .before .before .before .before .before .before
+    .before .before .before .before .before .before .kind in
+    let got = c .before .before .before .before .before .before .before .before .before .before .before .before .before .before .before
+    .room in
     let f =
-    room-found (a .s) (a .list .now) (a .text .now) (a .groups .now) (a .p .place) (a .p .prefix - cut .result + a .p .bytes) (got .result) (got .last .0)
+    room-found (a .s) (a .list .now) (a .text .now) (a .groups .now) (a .p .place) (a .p .prefix - cut .result + a .p .bytes) (got
+    .result) (got .last .0)
     (got .last .1 .1 .0) (got .ensures) (c .before .before .before .before .before .before .before .before .before .if1 .left) in
     omega (arith, f .free, p .8 .used, start .good .1 .1 .0)
 
@@ -223,15 +270,20 @@ same-length-6 c = search needs
 
 returns-2 : tie.Need-returns-2
 returns-2 c =
-    let start = c .before .before .before .before .before .before .before .before .before .before .before .before .before .before .before .before .before .before .before .before .before .before .before .before .before .before .before .before in
+    let start = c .before .before .before .before .before .before .before .before .before .before .before .before .before .before .before
+    .before .before .before .before .before .before .before .before .before .before .before .before .before in
     let a = start .args in
     let p = start .pre in
     let b = getD (a .draft .now) (a .p .place) 0 in
-    let cut = c .before .before .before .before .before .before .before .before .before .before .before .before .before .before .before .before .before .before .before .before .before .sign in
-    let kinded = c .before .before .before .before .before .before .before .before .before .before .before .before .before .before .before .before .before .before .before .before .before .before .kind in
-    let got = c .before .before .before .before .before .before .before .before .before .before .before .before .before .before .before .before .room in
+    let cut = c .before .before .before .before .before .before .before .before .before .before .before .before .before .before .before
+    .before .before .before .before .before .before .sign in
+    let kinded = c .before .before .before .before .before .before .before .before .before .before .before .before .before .before .before
+    .before .before .before .before .before .before .before .kind in
+    let got = c .before .before .before .before .before .before .before .before .before .before .before .before .before .before .before
+    .before .room in
     let f =
-    room-found (a .s) (a .list .now) (a .text .now) (a .groups .now) (a .p .place) (a .p .prefix - cut .result + a .p .bytes) (got .result) (got .last .0)
+    room-found (a .s) (a .list .now) (a .text .now) (a .groups .now) (a .p .place) (a .p .prefix - cut .result + a .p .bytes) (got
+    .result) (got .last .0)
     (got .last .1 .1 .0) (got .ensures) (c .before .before .before .before .before .before .before .before .before .before .if1 .left) in
     let wrote = c .before .before .before .before .before .before .before .before .row in
     let after-text = c .before .before .before .before .as-it-stands in
@@ -246,7 +298,8 @@ returns-2 c =
     (λ t. t .1 ∙ undone (a .draft .now) middle (a .s .text + size) (a .p .from) (a .p .bytes) (t .0 .left))
     (c .before .if2 .came) in
     held-room (a .draft .now) (a .s) (a .list .now) (a .text .now) (a .groups .now) (a .p .sort) (a .p .place) (a .p .prefix) (a .p .from)
-    (a .p .bytes) (cut .result) (kinded .result) (p .0) (p .7) (p .2) (p .1) (kinded .ensures .0) (cut .ensures .0) (p .8) (got .result) (c .goes .result) (got .last .0) (got .last .1 .1 .0) (wrote .last .0) middle (c .before .if2 .text) f
+    (a .p .bytes) (cut .result) (kinded .result) (p .0) (p .7) (p .2) (p .1) (kinded .ensures .0) (cut .ensures .0) (p .8) (got .result)
+    (c .goes .result) (got .last .0) (got .last .1 .1 .0) (wrote .last .0) middle (c .before .if2 .text) f
     (p .4) (p .5) (omega (arith, kinded .ensures .1)) (omega (arith, kinded .ensures .2)) (wrote .ensures) (after-text .ensures) texted
     (c .goes .ensures)
 

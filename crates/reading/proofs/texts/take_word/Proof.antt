@@ -35,20 +35,24 @@ same-length-3 c = search needs
 
 returns : tie.Need-returns
 returns c =
-    let start = c .before .before .before .before .before .before .before .before .before .before .before .before .before .before .before .before .before in
+    let start = c .before .before .before .before .before .before .before .before .before .before .before .before .before .before .before
+    .before .before in
     let a = start .args in
     let p = start .pre in
     let cut = c .before .before .before .before .before .before .before .before .before .before .before .sign in
     let kinded = c .before .before .before .before .before .before .before .before .before .before .before .before .kind in
     let got = c .before .before .before .before .before .before .before .room in
     let none : a .length - cut .result + 0 ≡ a .length - cut .result = omega arith in
-    stopped-room (a .draft .now) (a .s) (a .list .now) (a .text .now) (a .groups .now) 0 (a .place) (a .length) 0 0 (cut .result) (kinded .result)
-    (omega arith) (p .5) (λ e. (p .2, refl)) (λ e. rw (← p .0) (p .1)) (rw (← p .0) (kinded .ensures .0)) (cut .ensures .0) (p .6) (got .result) (c .stops .result) (got .last .0) (got .last .1 .1 .0) (rw none (got .ensures)) (c .before .if1 .taken)
+    stopped-room (a .draft .now) (a .s) (a .list .now) (a .text .now) (a .groups .now) 0 (a .place) (a .length) 0 0 (cut .result) (kinded
+    .result)
+    (omega arith) (p .5) (λ e. (p .2, refl)) (λ e. rw (← p .0) (p .1)) (rw (← p .0) (kinded .ensures .0)) (cut .ensures .0) (p .6) (got
+    .result) (c .stops .result) (got .last .0) (got .last .1 .1 .0) (rw none (got .ensures)) (c .before .if1 .taken)
     (c .stops .ensures)
 
 mul-row : tie.Need-mul-row
 mul-row c =
-    let start = c .before .before .before .before .before .before .before .before .before .before .before .before .before .before .before .before .before in
+    let start = c .before .before .before .before .before .before .before .before .before .before .before .before .before .before .before
+    .before .before in
     let a = start .args in
     let p = start .pre in
     let cut = c .before .before .before .before .before .before .before .before .before .before .before .sign in
@@ -71,7 +75,8 @@ cast-row-3 c = search needs
 
 row-requires : tie.Need-row-requires
 row-requires c κs =
-    let start = c .before .before .before .before .before .before .before .before .before .before .before .before .before .before .before .before .before in
+    let start = c .before .before .before .before .before .before .before .before .before .before .before .before .before .before .before
+    .before .before in
     let a = start .args in
     let p = start .pre in
     let cut = c .before .before .before .before .before .before .before .before .before .before .before .sign in
@@ -88,11 +93,14 @@ add-as-it-stands c = search needs
 
 as-it-stands-requires : tie.Need-as-it-stands-requires
 as-it-stands-requires c κs =
-    let start = c .before .before .before .before .before .before .before .before .before .before .before .before .before .before .before .before .before .before .before .before .before in
+    let start = c .before .before .before .before .before .before .before .before .before .before .before .before .before .before .before
+    .before .before .before .before .before .before in
     let a = start .args in
     let p = start .pre in
-    let cut = c .before .before .before .before .before .before .before .before .before .before .before .before .before .before .before .sign in
-    let kinded = c .before .before .before .before .before .before .before .before .before .before .before .before .before .before .before .before .kind in
+    let cut = c .before .before .before .before .before .before .before .before .before .before .before .before .before .before .before
+    .sign in
+    let kinded = c .before .before .before .before .before .before .before .before .before .before .before .before .before .before .before
+    .before .kind in
     let got = c .before .before .before .before .before .before .before .before .before .before .before .room in
     let none : a .length - cut .result + 0 ≡ a .length - cut .result = omega arith in
     let f =
@@ -105,11 +113,14 @@ as-it-stands-requires c κs =
 
 add-goes : tie.Need-add-goes
 add-goes c =
-    let start = c .before .before .before .before .before .before .before .before .before .before .before .before .before .before .before .before .before .before .before .before .before .before .before .before in
+    let start = c .before .before .before .before .before .before .before .before .before .before .before .before .before .before .before
+    .before .before .before .before .before .before .before .before .before in
     let a = start .args in
     let p = start .pre in
-    let cut = c .before .before .before .before .before .before .before .before .before .before .before .before .before .before .before .before .before .before .sign in
-    let kinded = c .before .before .before .before .before .before .before .before .before .before .before .before .before .before .before .before .before .before .before .kind in
+    let cut = c .before .before .before .before .before .before .before .before .before .before .before .before .before .before .before
+    .before .before .before .sign in
+    let kinded = c .before .before .before .before .before .before .before .before .before .before .before .before .before .before .before
+    .before .before .before .before .kind in
     let got = c .before .before .before .before .before .before .before .before .before .before .before .before .before .before .room in
     let none : a .length - cut .result + 0 ≡ a .length - cut .result = omega arith in
     let f =
@@ -119,11 +130,14 @@ add-goes c =
 
 add-goes-2 : tie.Need-add-goes-2
 add-goes-2 c =
-    let start = c .before .before .before .before .before .before .before .before .before .before .before .before .before .before .before .before .before .before .before .before .before .before .before .before in
+    let start = c .before .before .before .before .before .before .before .before .before .before .before .before .before .before .before
+    .before .before .before .before .before .before .before .before .before in
     let a = start .args in
     let p = start .pre in
-    let cut = c .before .before .before .before .before .before .before .before .before .before .before .before .before .before .before .before .before .before .sign in
-    let kinded = c .before .before .before .before .before .before .before .before .before .before .before .before .before .before .before .before .before .before .before .kind in
+    let cut = c .before .before .before .before .before .before .before .before .before .before .before .before .before .before .before
+    .before .before .before .sign in
+    let kinded = c .before .before .before .before .before .before .before .before .before .before .before .before .before .before .before
+    .before .before .before .before .kind in
     let got = c .before .before .before .before .before .before .before .before .before .before .before .before .before .before .room in
     let none : a .length - cut .result + 0 ≡ a .length - cut .result = omega arith in
     let f =
@@ -145,23 +159,30 @@ same-length-6 c = search needs
 
 returns-2 : tie.Need-returns-2
 returns-2 c =
-    let start = c .before .before .before .before .before .before .before .before .before .before .before .before .before .before .before .before .before .before .before .before .before .before .before .before .before in
+    let start = c .before .before .before .before .before .before .before .before .before .before .before .before .before .before .before
+    .before .before .before .before .before .before .before .before .before .before in
     let a = start .args in
     let p = start .pre in
-    let cut = c .before .before .before .before .before .before .before .before .before .before .before .before .before .before .before .before .before .before .before .sign in
-    let kinded = c .before .before .before .before .before .before .before .before .before .before .before .before .before .before .before .before .before .before .before .before .kind in
-    let got = c .before .before .before .before .before .before .before .before .before .before .before .before .before .before .before .room in
+    let cut = c .before .before .before .before .before .before .before .before .before .before .before .before .before .before .before
+    .before .before .before .before .sign in
+    let kinded = c .before .before .before .before .before .before .before .before .before .before .before .before .before .before .before
+    .before .before .before .before .before .kind in
+    let got = c .before .before .before .before .before .before .before .before .before .before .before .before .before .before .before
+    .room in
     let none : a .length - cut .result + 0 ≡ a .length - cut .result = omega arith in
     let f =
     room-found (a .s) (a .list .now) (a .text .now) (a .groups .now) (a .place) (a .length - cut .result + 0) (got .result) (got .last .0)
-    (got .last .1 .1 .0) (rw none (got .ensures)) (c .before .before .before .before .before .before .before .before .before .if1 .left) in
+    (got .last .1 .1 .0) (rw none (got .ensures)) (c .before .before .before .before .before .before .before .before .before .if1 .left)
+    in
     let wrote = c .before .before .before .before .before .before .before .row in
     let after-text = c .before .before .before .as-it-stands in
     let middle = after-text .last .1 .1 .1 .0 in
     let size = a .length - cut .result in
     let all : a .s .text + size + 0 ≡ a .s .text + size = omega arith in
-    held-room (a .draft .now) (a .s) (a .list .now) (a .text .now) (a .groups .now) 0 (a .place) (a .length) 0 0 (cut .result) (kinded .result)
-    (omega arith) (p .5) (λ e. (p .2, refl)) (λ e. rw (← p .0) (p .1)) (rw (← p .0) (kinded .ensures .0)) (cut .ensures .0) (p .6) (got .result) (c .goes .result) (got .last .0) (got .last .1 .1 .0) (wrote .last .0) middle middle f
+    held-room (a .draft .now) (a .s) (a .list .now) (a .text .now) (a .groups .now) 0 (a .place) (a .length) 0 0 (cut .result) (kinded
+    .result)
+    (omega arith) (p .5) (λ e. (p .2, refl)) (λ e. rw (← p .0) (p .1)) (rw (← p .0) (kinded .ensures .0)) (cut .ensures .0) (p .6) (got
+    .result) (c .goes .result) (got .last .0) (got .last .1 .1 .0) (wrote .last .0) middle middle f
     (p .3) (omega arith) (omega (arith, kinded .ensures .1)) (omega (arith, kinded .ensures .2)) (wrote .ensures) (after-text .ensures)
     (undone (a .draft .now) middle (a .s .text + size) 0 0 refl) (rw all (c .goes .ensures))
 

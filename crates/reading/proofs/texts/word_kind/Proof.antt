@@ -23,7 +23,11 @@ returns-2 : tie.Need-returns-2
 unfolding wordKind
 returns-2 c =
     let b = c .before .before .args .c in (
-      constant wordKind 16 (λ k. leb 0x40 k && not (eqb k 0x40)) refl b (search needs) (rw (le-leb 0x40 b (c .before .if1 .taken), ne-eqb b 0x40 (c .if2 .left))),
+      constant wordKind 16 (λ k. leb 0x40 k && not (eqb k 0x40)) refl b (search needs) (rw (
+        le-leb 0x40 b (c .before .if1 .taken),
+        ne-eqb
+            b 0x40 (c .if2 .left),
+      )),
       omega arith,
       omega arith,
     )
@@ -65,7 +69,15 @@ returns-7 : tie.Need-returns-7
 unfolding wordKind
 returns-7 c =
     let b = c .before .before .before .before .before .args .c in (
-      constant wordKind 16 (λ k. ltb k 0x40 && (leb 0x3A k && (not (eqb k 0x3D) && (not (eqb k 0x3F) && not (eqb k 0x3A))))) refl b (search needs) (rw (lt-ltb b 0x40 (c .before .before .before .before .if1 .left), le-leb 0x3A b (c .before .before .before .if3 .left), ne-eqb b 0x3D (c .before .before .if4 .left), ne-eqb b 0x3F (c .before .if5 .left), ne-eqb b 0x3A (c .if6 .left))),
+      constant wordKind 16 (λ k. ltb k 0x40 && (leb 0x3A k && (not (eqb k 0x3D) && (not (eqb k 0x3F) && not (eqb k 0x3A))))) refl b
+          (search needs) (rw (
+            lt-ltb b 0x40 (c .before .before .before .before .if1 .left),
+            le-leb 0x3A b (c .before .before .before .if3
+                .left),
+            ne-eqb b 0x3D (c .before .before .if4 .left),
+            ne-eqb b 0x3F (c .before .if5 .left),
+            ne-eqb b 0x3A (c .if6 .left),
+          )),
       omega arith,
       omega arith,
     )
