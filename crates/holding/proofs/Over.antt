@@ -2,11 +2,11 @@
 -- as far as they reach.
 use mathlib.Core.Path.{_≡_, refl, sym, _∙_, ap}
 use mathlib.Core.List.{List, [], _∷_, _++_, append-assoc}
-use Prim.Native.Nat.{ℕ, zero, suc, _+_, _-_, _<_, _≤_}
+use Prim.Native.Nat.{ℕ, zero, suc, _+_, _-_, _/_, _<_, _≤_}
 use native.Mathlib.Omega.{arith}
 use native.Mathlib.Numerals.{add-one, add-two, add-three, add-four, add-five, add-six, add-seven}
 use lib.ListN.{length, getD, take, drop, set}
-use lib.Seq.{sets-eq, length-take-le, take-append-le, drop-append-add, take-take, take-add, drop-drop, drop-cons, getD-drop, paste-suc}
+use lib.Seq.{sets-eq, length-take-le, take-append-le, drop-append-add, take-take, take-add, drop-drop, drop-cons, getD-drop, set-set, paste-suc}
 
 -- six stores
 pub six :
@@ -83,22 +83,38 @@ module _ (draft : List ℕ) (from : ℕ) (before : List ℕ) where
   next part k is h g = rw (← getD-drop from draft k 0, is, add-one k) (one-more (drop from draft) before k h g)
 
   -- one byte, two and three
-  pub first :
+  first :
       1 ≤ length (drop from draft) → 1 ≤ length before → set before 0 (getD draft from 0) ≡ take 1 (drop from draft) ++ drop 1 before
   first h g =
       let same : from + 0 ≡ from = omega arith in
       rw same at (next before 0 refl (omega arith) (omega arith))
 
-  pub second :
+  second :
       2 ≤ length (drop from draft) → 2 ≤ length before
       → set (set before 0 (getD draft from 0)) 1 (getD draft (from + 1) 0) ≡ take 2 (drop from draft) ++ drop 2 before
   second h g = next _ 1 (first (omega arith) (omega arith)) (omega arith) (omega arith)
 
-  pub third :
+  third :
       3 ≤ length (drop from draft) → 3 ≤ length before
       → set (set (set before 0 (getD draft from 0)) 1 (getD draft (from + 1) 0)) 2 (getD draft (from + 2) 0)
       ≡ take 3 (drop from draft) ++ drop 3 before
   third h g = next _ 2 (second (omega arith) (omega arith)) (omega arith) (omega arith)
+
+  -- the first, the middle and the last of at most three
+  pub first-middle-last :
+      (n : ℕ) → 1 ≤ n → n ≤ 3 → n ≤ length (drop from draft) → n ≤ length before
+      → set (set (set before 0 (getD draft from 0)) (n / 2) (getD draft (from + n / 2) 0)) (n - 1) (getD draft (from + (n - 1)) 0)
+      ≡ take n (drop from draft) ++ drop n before
+  first-middle-last zero l m h g = absurd (omega arith)
+  first-middle-last (suc zero) l m h g =
+      let same : from + 0 ≡ from = omega arith in
+      let b = getD draft from 0 in
+      rw same (set-set (set before 0 b) 0 b b ∙ (set-set before 0 b b ∙ first h g))
+  first-middle-last (suc (suc zero)) l m h g =
+      let b = getD draft (from + 1) 0 in
+      set-set (set before 0 (getD draft from 0)) 1 b b ∙ second h g
+  first-middle-last (suc (suc (suc zero))) l m h g = third h g
+  first-middle-last (suc (suc (suc (suc n)))) l m h g = absurd (omega arith)
 
 -- `w` bytes of the draft at `m` of a part whose first `k` are the draft's
 pub over :

@@ -44,7 +44,8 @@ fn eight_over(draft: &[u8], from: usize, out: &mut [u8], at: usize)
     out[at + 7] = h;
 }
 
-// Fewer than eight. Four at the front and four at the end may overlap: there the same bytes are written twice.
+// Fewer than eight. Four at the front and four at the end may overlap: there the same bytes are written twice. So may the first, the middle
+// and the last of fewer, so that the processor has no length of a word to guess.
 fn few(draft: &[u8], from: usize, n: usize, out: &mut [u8])
     requires { ⌜ (n < 8) × (n ≤ length (drop from (now draft))) × (n ≤ length (now out)) ⌝ }
     ensures { λ r. ⌜ now (out .exit) ≡ take n (drop from (now (draft .entry))) ++ drop n (now (out .entry)) ⌝ }
@@ -58,15 +59,14 @@ fn few(draft: &[u8], from: usize, n: usize, out: &mut [u8])
     if n == 0 {
         return;
     }
-    out[0] = draft[from];
-    if n == 1 {
-        return;
-    }
-    out[1] = draft[from + 1];
-    if n == 2 {
-        return;
-    }
-    out[2] = draft[from + 2];
+    let middle = n / 2;
+    let last = n - 1;
+    let a = draft[from];
+    let b = draft[from + middle];
+    let c = draft[from + last];
+    out[0] = a;
+    out[middle] = b;
+    out[last] = c;
 }
 
 // Any number: the last eight may overlap the ones before them.

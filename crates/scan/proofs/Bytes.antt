@@ -1,22 +1,24 @@
--- A `match` on a byte, by what antt computes at every byte: an arm lists bytes, and in `_` no arm lists the byte. A tree of comparisons
--- tells a range, but for some bytes of it. CR before LF is one LF.
+-- A `match` on a byte, by what antt computes at every byte: an arm lists bytes, and in `_` no arm lists the byte. Comparisons tell a range,
+-- but for some bytes of it, and a bit of a number tells one byte. CR before LF is one LF.
 use mathlib.Core.Path.{_≡_, refl, sym}
 use mathlib.Core.Bool.{Bool, true, false, not, _&&_}
 use mathlib.Core.List.{List, [], _∷_}
-use Prim.Native.Nat.{ℕ, suc, _+_, _<_, _≤_}
+use Prim.Native.Nat.{ℕ, suc, _+_, _/_, _^_, _<_, _≤_}
 use native.Mathlib.Omega.{arith}
 use native.Mathlib.Numerals.{add-one}
 use lib.Dec.{eqb}
+use lib.Bits.{bitAnd}
 use lib.ListN.{length, getD, drop, drop-of-length-le}
 use lib.Seq.{drop-cons}
 use mir.Val.{hasKey}
 use types.Run.{OneOf, hit, miss}
 use borrow.Author.Tests.{not-true, ne-eqb, le-leb}
-use Rattle.chars.specs.Choice.{within, among}
+use Rattle.chars.specs.Choice.{if_then_else_, within, among}
 use Rattle.chars.specs.Character.{character, characterAt, carriage}
 use Rattle.chars.specs.declared.Character.the-variants.{Clean}
 use Rattle.chars.proofs.Characters.{refused}
 use Rattle.chars.proofs.Cases.{either}
+use Rattle.scan.specs.Bytes.{beginsOf}
 use Rattle.tokens.proofs.Table.{below, if-then, implied, constant}
 
 -- a byte that an arm lists, and one that it does not
@@ -57,14 +59,33 @@ not-among : (ms : List ℕ) (b : ℕ) → None ms b → not (among b ms) ≡ tru
 not-among [] b none = refl
 not-among (m ∷ ms) b none = rw (ne-eqb b m (none .0)) (not-among ms b (none .1))
 
--- every byte of a range but some has one value
-pub alike :
-    (f : ℕ → ℕ) (v low high : ℕ) (but : List ℕ)
-    → below (λ k. if-then (within low high k && not (among k but)) (eqb v (f k))) 256 ≡ true
-    → (b : ℕ) → b < 256 → low ≤ b → b ≤ high → None but b → v ≡ f b
-alike f v low high but t b h g l none =
-    constant f v (λ k. within low high k && not (among k but)) t b h
-    (rw (le-leb low b g, le-leb b high l) (not-among but b none))
+-- every byte of a range that begins no word begins the same, but for some
+pub but-for-words :
+    (v low high : ℕ) (but : List ℕ)
+    → below (λ k. if-then (within low high k && (not (among k but) && not (eqb (beginsOf k) 6))) (eqb v (beginsOf k))) 256 ≡ true
+    → (b : ℕ) → b < 256 → low ≤ b → b ≤ high → None but b → eqb (beginsOf b) 6 ≡ false → v ≡ beginsOf b
+but-for-words v low high but t b h g l none no-word =
+    constant beginsOf v (λ k. within low high k && (not (among k but) && not (eqb (beginsOf k) 6))) t b h
+    (rw (le-leb low b g, le-leb b high l, no-word) (rw (not-among but b none) refl))
+
+same : (x y : Bool) → (if x then y else not y) ≡ true → x ≡ y
+same true y e = sym e
+same false true e = e
+same false false e = refl
+
+-- at every byte of a range its bit in a number tells whether it begins a word
+pub told-by-its-bit :
+    (bits low high : ℕ)
+    → below
+    (λ k. if-then (within low high k)
+    (if eqb (bitAnd (bits / 2 ^ bitAnd k 0x3F) 1) 0 then eqb (beginsOf k) 6 else not (eqb (beginsOf k) 6))) 256
+    ≡ true
+    → (b : ℕ) → b < 256 → low ≤ b → b ≤ high → eqb (bitAnd (bits / 2 ^ bitAnd b 0x3F) 1) 0 ≡ eqb (beginsOf b) 6
+told-by-its-bit bits low high t b h g l =
+    same (eqb (bitAnd (bits / 2 ^ bitAnd b 0x3F) 1) 0) (eqb (beginsOf b) 6)
+    (implied (within low high)
+    (λ k. if eqb (bitAnd (bits / 2 ^ bitAnd k 0x3F) 1) 0 then eqb (beginsOf k) 6 else not (eqb (beginsOf k) 6)) 256 t b h
+    (rw (le-leb low b g, le-leb b high l) refl))
 
 -- CR before LF
 pub line-at :

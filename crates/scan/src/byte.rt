@@ -2,6 +2,7 @@
 ghost use mathlib.Core.Path.{_≡_};
 ghost use mathlib.Core.Bool.{true, false};
 ghost use Prim.Native.Nat.{ℕ, _+_, _<_, _≤_};
+ghost use lib.Dec.{eqb};
 ghost use lib.ListN.{length, getD};
 ghost use Rattle.chars.specs.Character.{characterAt};
 ghost use Rattle.chars.specs.declared.Character.the-variants.{Clean};
@@ -38,44 +39,68 @@ fn inclusive(b: u8) -> bool
     }
 }
 
-// What a byte begins (specs/Bytes.antt, beginsOf), of those below `-`.
+// The characters that begin no word, those below `@` and those from there on: a bit for each.
+const BELOW: u64 = (1u64 << b'"')
+    | (1u64 << b'#')
+    | (1u64 << b'%')
+    | (1u64 << b'(')
+    | (1u64 << b')')
+    | (1u64 << b',')
+    | (1u64 << b';');
+
+const FROM: u64 = (1u64 << (b'[' - b'@'))
+    | (1u64 << (b']' - b'@'))
+    | (1u64 << (b'{' - b'@'))
+    | (1u64 << (b'|' - b'@'))
+    | (1u64 << (b'}' - b'@'));
+
+// Whether a byte begins a word and nothing else. It is told by its bit, since a processor could not guess comparisons: words begin with
+// letters, digits and signs as it comes.
+fn begins_word(b: u8) -> bool
+    ensures { λ r. ⌜ r ≡ eqb (beginsOf b) 6 ⌝ }
+{
+    if b < 0x21 {
+        return false;
+    }
+    if 0x7E < b {
+        return false;
+    }
+    let mut listed = BELOW;
+    if b'@' <= b {
+        listed = FROM;
+    }
+    (listed >> (b & 0x3F)) & 1 == 0
+}
+
+// What a byte begins (specs/Bytes.antt, beginsOf), of those below `-` that begin no word.
 fn low(b: u8) -> u32
-    requires { ⌜ (b < 0x2D) × (b ≡ 0x20 → ⊥) ⌝ }
+    requires { ⌜ (b < 0x2D) × (eqb (beginsOf b) 6 ≡ false) ⌝ }
     ensures { λ r. ⌜ r ≡ beginsOf b ⌝ }
 {
-    if b < b' ' {
-        if b == b'\n' {
-            return 1;
-        }
-        if b == b'\t' {
-            return 1;
-        }
-        return 0;
-    }
-    if b < b'(' {
-        if b == b'"' {
-            return 4;
-        }
-        if b == b'%' {
-            return 3;
-        }
-        if b == b'#' {
-            return 2;
-        }
-        return 6;
-    }
-    if b == b',' {
+    if b'#' < b {
         return 3;
     }
-    if b < b'*' {
-        return 3;
+    if b == b'"' {
+        return 4;
     }
-    6
+    if b == b'#' {
+        return 2;
+    }
+    if b == b' ' {
+        return 1;
+    }
+    if b == b'\n' {
+        return 1;
+    }
+    if b == b'\t' {
+        return 1;
+    }
+    0
 }
 
 // The same of those from `{` on.
 fn high(b: u8) -> u32
-    requires { ⌜ 0x7B ≤ b ⌝ }
+    requires { ⌜ (0x7B ≤ b) × (eqb (beginsOf b) 6 ≡ false) ⌝ }
     ensures { λ r. ⌜ r ≡ beginsOf b ⌝ }
 {
     if b == b'{' {
@@ -87,42 +112,24 @@ fn high(b: u8) -> u32
     if b == b'}' {
         return 7;
     }
-    if 0x7E < b {
-        return 0;
-    }
-    6
+    0
 }
 
-// What a byte begins where no token has begun (specs/Bytes.antt, beginsOf). SP and small letters are told first, since most bytes asked
-// about are these; comparisons stand for a `match`, of which the compiler would make a jump by a table, dearer than any of them.
+// What a byte begins where no token has begun (specs/Bytes.antt, beginsOf). Comparisons stand for a `match`, of which the compiler would
+// make a jump by a table, dearer than any of them.
 pub fn begins(b: u8) -> u32
     ensures { λ r. ⌜ r ≡ beginsOf b ⌝ }
 {
-    if b == b' ' {
-        return 1;
+    if begins_word(b) {
+        return 6;
     }
-    if b'`' <= b {
-        if b < b'{' {
-            return 6;
-        }
-        return high(b);
-    }
-    if b < b';' {
-        if b'-' <= b {
-            return 6;
-        }
+    if b < b'-' {
         return low(b);
     }
-    if b == b'[' {
+    if b < b'{' {
         return 3;
     }
-    if b == b']' {
-        return 3;
-    }
-    if b == b';' {
-        return 3;
-    }
-    6
+    high(b)
 }
 
 // What a byte is behind a token's first (specs/Bytes.antt, endsOf). Most tokens are ended by SP or LF.

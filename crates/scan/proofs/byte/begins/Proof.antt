@@ -1,70 +1,40 @@
--- `scan::byte::begins` meets its contract: antt computes the definition at each byte that is told alone, and at every other one of each
--- range. Assumes nothing.
-use mathlib.Core.Path.{refl, sym, ap}
-use mathlib.Core.List.{[], _∷_}
+-- `scan::byte::begins` meets its contract: what begins no word is told below `-` and from `{` on, and between them it is a token alone.
+-- Assumes nothing.
+use mathlib.Core.Path.{refl, sym, _∙_}
+use mathlib.Core.List.{[]}
 use native.Mathlib.Omega.{arith}
 use borrow.Author.Needs.{needs}
+use borrow.Author.Tests.{eqb-true}
 use Rattle.tokens.specs.Sorts.{visible, white, atomic, inclusive}
 use Rattle.scan.specs.Bytes.{beginsOf}
-use Rattle.scan.proofs.Bytes.{alike}
+use Rattle.scan.proofs.Bytes.{but-for-words}
 use Rattle.scan.proofs.byte.begins.Statement.{statement}
 use Rattle.scan.proofs.byte.begins.Tie as tie
 
+begins-word-requires : tie.Need-begins-word-requires
+begins-word-requires c κs = search needs
+
 returns : tie.Need-returns
-unfolding beginsOf visible white atomic inclusive
-returns c = ap beginsOf (sym (c .if1 .taken))
-
-returns-2 : tie.Need-returns-2
-unfolding beginsOf visible white atomic inclusive
-returns-2 c = alike beginsOf 6 0x60 0x7A [] refl (c .before .before .before .args .b) (search needs) (omega arith) (omega arith) tt
-
-high-requires : tie.Need-high-requires
-high-requires c κs = search needs
-
-returns-3 : tie.Need-returns-3
-returns-3 c = search needs
-
-returns-4 : tie.Need-returns-4
-unfolding beginsOf visible white atomic inclusive
-returns-4 c = alike beginsOf 6 0x2D 0x3A [] refl (c .before .before .before .before .args .b) (search needs) (omega arith) (omega arith) tt
+returns c = sym (eqb-true _ 6 (sym (c .before .begins-word .ensures) ∙ c .if1 .taken))
 
 low-requires : tie.Need-low-requires
-low-requires c κs = search needs
+low-requires c κs = (omega arith, sym (c .before .before .begins-word .ensures) ∙ c .before .if1 .left)
 
-returns-5 : tie.Need-returns-5
-returns-5 c = search needs
+returns-2 : tie.Need-returns-2
+returns-2 c = search needs
 
-returns-6 : tie.Need-returns-6
+returns-3 : tie.Need-returns-3
 unfolding beginsOf visible white atomic inclusive
-returns-6 c = ap beginsOf (sym (c .if6 .taken))
+returns-3 c =
+    but-for-words 3 0x2D 0x7A [] refl (c .before .before .before .before .args .b) (search needs) (omega arith) (omega arith) tt
+    (sym (c .before .before .before .begins-word .ensures) ∙ c .before .before .if1 .left)
 
-returns-7 : tie.Need-returns-7
-unfolding beginsOf visible white atomic inclusive
-returns-7 c = ap beginsOf (sym (c .if7 .taken))
+high-requires : tie.Need-high-requires
+high-requires c κs = (omega arith, sym (c .before .before .before .begins-word .ensures) ∙ c .before .before .if1 .left)
 
-returns-8 : tie.Need-returns-8
-unfolding beginsOf visible white atomic inclusive
-returns-8 c = ap beginsOf (sym (c .if8 .taken))
-
-returns-9 : tie.Need-returns-9
-unfolding beginsOf visible white atomic inclusive
-returns-9 c =
-    alike beginsOf 6 0x3B 0x5F (0x5B ∷ 0x5D ∷ 0x3B ∷ []) refl
-    (c .before .before .before .before .before .before .args .b) (search needs) (omega arith) (omega arith)
-    (c .before .before .if6 .left, (c .before .if7 .left, (c .if8 .left, tt)))
+returns-4 : tie.Need-returns-4
+returns-4 c = search needs
 
 pub begins-spec : {M : Type 1} → statement M
 begins-spec =
-    tie.close
-    (tie.spec
-    returns
-    returns-2
-    high-requires
-    returns-3
-    returns-4
-    low-requires
-    returns-5
-    returns-6
-    returns-7
-    returns-8
-    returns-9)
+    tie.close (tie.spec begins-word-requires returns low-requires returns-2 returns-3 high-requires returns-4)

@@ -1,12 +1,12 @@
--- `scan::byte::high` meets its contract: antt computes the definition at each byte that is told alone, and at every other one. Assumes
--- nothing.
+-- `scan::byte::high` meets its contract: antt computes the definition at each byte that is told alone, and at every other one that begins no
+-- word. Assumes nothing.
 use mathlib.Core.Path.{refl, sym, ap}
-use mathlib.Core.List.{[], _∷_}
+use mathlib.Core.List.{_∷_, []}
 use native.Mathlib.Omega.{arith}
 use borrow.Author.Needs.{needs}
 use Rattle.tokens.specs.Sorts.{visible, white, atomic, inclusive}
 use Rattle.scan.specs.Bytes.{beginsOf}
-use Rattle.scan.proofs.Bytes.{alike}
+use Rattle.scan.proofs.Bytes.{but-for-words}
 use Rattle.scan.proofs.byte.high.Statement.{statement}
 use Rattle.scan.proofs.byte.high.Tie as tie
 
@@ -24,14 +24,9 @@ returns-3 c = ap beginsOf (sym (c .if3 .taken))
 
 returns-4 : tie.Need-returns-4
 unfolding beginsOf visible white atomic inclusive
-returns-4 c = alike beginsOf 0 0x7F 0xFF [] refl (c .before .before .before .before .args .b) (search needs) (omega arith) (omega arith) tt
-
-returns-5 : tie.Need-returns-5
-unfolding beginsOf visible white atomic inclusive
-returns-5 c =
-    alike beginsOf 6 0x7B 0x7E (0x7B ∷ 0x7C ∷ 0x7D ∷ []) refl
-    (c .before .before .before .before .args .b) (search needs) (omega arith) (omega arith)
-    (c .before .before .before .if1 .left, (c .before .before .if2 .left, (c .before .if3 .left, tt)))
+returns-4 c =
+    but-for-words 0 0x7B 0xFF (0x7B ∷ 0x7C ∷ 0x7D ∷ []) refl (c .before .before .before .args .b) (search needs) (omega arith) (omega arith)
+    (c .before .before .if1 .left, (c .before .if2 .left, (c .if3 .left, tt))) (c .before .before .before .pre .1)
 
 pub high-spec : {M : Type 1} → statement M
-high-spec = tie.close (tie.spec returns returns-2 returns-3 returns-4 returns-5)
+high-spec = tie.close (tie.spec returns returns-2 returns-3 returns-4)
