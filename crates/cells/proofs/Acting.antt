@@ -8,7 +8,7 @@ use lib.Dec.{eqb}
 use borrow.Author.Tests.{eqb-true, eqb-false, ne-eqb}
 use Rattle.chars.specs.Limits.{Limits}
 use Rattle.chars.proofs.Cases.{either}
-use Rattle.reading.specs.Judging.{kindOf}
+use Rattle.entities.specs.Judging.{kindOf}
 use Rattle.table.specs.Table.{Operation, find}
 use Rattle.rules.specs.Cells.{State, goes, push, hide, show, define, fetch, assign, lookup, operate, act}
 use Rattle.rules.specs.Kinds.{Checked, of, count, kinds}

@@ -11,11 +11,11 @@ use lib.ListN.{length}
 use borrow.Author.Tests.{eqb-true, eqb-false, ltb-true}
 use Rattle.chars.specs.Limits.{Limits, limits}
 use Rattle.chars.proofs.Cases.{either, both}
-use Rattle.reading.specs.Judging.{kindOf}
-use Rattle.reading.specs.Entity.{Kind, Entity, kindNumber}
-use Rattle.reading.specs.Entity.{begin-metacommand, end-metacommand, metacommand-token, metacommand-quoted, metacommand-curly}
-use Rattle.reading.specs.Entity.{begin-group, end-group, array, number, quoted-string, curly-string}
-use Rattle.reading.specs.Entity.{define-variable, define-constant, get, put, operation, end}
+use Rattle.entities.specs.Judging.{kindOf}
+use Rattle.entities.specs.Entity.{Kind, Entity, kindNumber}
+use Rattle.entities.specs.Entity.{begin-metacommand, end-metacommand, metacommand-token, metacommand-quoted, metacommand-curly}
+use Rattle.entities.specs.Entity.{begin-group, end-group, array, number, quoted-string, curly-string}
+use Rattle.entities.specs.Entity.{define-variable, define-constant, get, put, operation, end}
 use Rattle.table.specs.Table.{Operation}
 use Rattle.rules.specs.Cells.{Cell, State, goes, cellsOf, outer, act, through}
 use Rattle.rules.proofs.ByKind.{if-goes, at-begin-group, at-end-group, begin-hides}

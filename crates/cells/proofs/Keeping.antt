@@ -12,12 +12,12 @@ use borrow.Author.Tests.{eqb-true}
 use Rattle.chars.specs.Choice.{within}
 use Rattle.chars.specs.Limits.{limits}
 use Rattle.chars.proofs.Cases.{either, both}
-use Rattle.reading.specs.Entity.{Entity, kindNumber, size, texts, rows}
+use Rattle.entities.specs.Entity.{Entity, kindNumber, size, texts, rows}
+use Rattle.entities.proofs.Listing.{rows-length}
 use Rattle.reading.specs.WellMade.{made, well-made}
-use Rattle.reading.proofs.Listing.{rows-length}
 use Rattle.rules.proofs.Ending.{placeAt}
-use Rattle.cells.proofs.Going.{kind-of-number}
 use Rattle.cells.specs.Kept.{placeIn, textAtIn, textLenIn, textIn, entityAt, entitiesFrom, grouped, Held}
+use Rattle.cells.proofs.Going.{kind-of-number}
 
 -- what stands behind so many numbers
 behind : (front back : List ℕ) (i k : ℕ) → length front ≡ i * 6 → getD (front ++ back) (i * 6 + k) 0 ≡ getD back k 0

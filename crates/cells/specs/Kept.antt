@@ -7,8 +7,8 @@ use lib.Dec.{ltb, eqb}
 use lib.ListN.{length, getD, take, drop}
 use Rattle.chars.specs.Choice.{if_then_else_}
 use Rattle.chars.specs.Limits.{Limits, limits}
-use Rattle.reading.specs.Entity.{Entity, kindNumber}
-use Rattle.reading.specs.Judging.{kindOf}
+use Rattle.entities.specs.Entity.{Entity, kindNumber}
+use Rattle.entities.specs.Judging.{kindOf}
 use Rattle.table.specs.Table.{Operation}
 use Rattle.rules.specs.Cells.{Ended}
 use Rattle.rules.specs.Kinds.{check}

@@ -14,7 +14,7 @@ use borrow.Fn.Kinds.{endedOf}
 use denote.Triple.Clauses.{AtExit}
 use Rattle.chars.specs.Limits.{limits}
 use Rattle.chars.proofs.Cases.{either}
-use Rattle.reading.specs.Entity.{sizes, texts, rows}
+use Rattle.entities.specs.Entity.{sizes, texts, rows}
 use Rattle.reading.specs.Reading.{Read, Reading, reading, readWith, roomOf, answered}
 use Rattle.reading.specs.declared.Answer.{Answer}
 use Rattle.reading.proofs.Numbers.{read-number, read-long}

@@ -6,6 +6,7 @@ use Rattle.chars.specs.Limits.{limits}
 use Rattle.chars.specs.Choice.{ascii}
 use Rattle.chars.proofs.Computes.{computes as chars-compute}
 use Rattle.tokens.proofs.Computes.{computes as tokens-compute}
+use Rattle.entities.proofs.Computes.{computes as entities-compute}
 use Rattle.reading.proofs.Computes.{computes as reading-computes}
 use Rattle.reading.specs.Reading.{Read, readWith}
 use Rattle.reading.specs.declared.Answer.{Answer}
@@ -26,5 +27,5 @@ found c =
     }
 
 pub drafts-hold : map found cases ≡ cases
-unfolding chars-compute tokens-compute reading-computes table-computes rules-compute computes
+unfolding chars-compute tokens-compute entities-compute reading-computes table-computes rules-compute computes
 drafts-hold = refl

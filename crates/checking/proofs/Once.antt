@@ -4,7 +4,7 @@ use mathlib.Core.List.{List}
 use mathlib.Core.Option.{none, some}
 use Prim.Native.Nat.{ℕ}
 use Rattle.chars.specs.Limits.{Limits}
-use Rattle.reading.specs.Making.{Room}
+use Rattle.entities.specs.Making.{Room}
 use Rattle.reading.specs.Reading.{Reading, roomOf}
 use Rattle.reading.proofs.Once.{readOnce, read-once}
 use Rattle.table.specs.Table.{operations}

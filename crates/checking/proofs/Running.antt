@@ -10,6 +10,7 @@ use Rattle.chars.specs.Limits.{limits}
 use Rattle.chars.specs.Choice.{ascii}
 use Rattle.chars.proofs.Computes.{computes as chars-compute}
 use Rattle.tokens.proofs.Computes.{computes as tokens-compute}
+use Rattle.entities.proofs.Computes.{computes as entities-compute}
 use Rattle.reading.proofs.Computes.{computes as reading-computes}
 use Rattle.reading.specs.Reading.{readWith}
 use Rattle.table.specs.Table.{Operation, operations}
@@ -42,7 +43,7 @@ found bounded t =
     }
 
 pub trials-hold : (map (found false) trials ≡ trials) × (map (found true) trials ≡ trials)
-unfolding chars-compute tokens-compute reading-computes table-computes rules-compute computes lines
+unfolding chars-compute tokens-compute entities-compute reading-computes table-computes rules-compute computes lines
 trials-hold = (refl, refl)
 
 -- room for the 15 entities and ten bytes of text, each place filled
@@ -56,5 +57,5 @@ abbrev text : List ℕ
 text = replicate 10 7
 
 pub an-instance : let c = checking limits draft list text table in RunsWell draft list text table (c .answer) (c .list) (c .text)
-unfolding chars-compute tokens-compute reading-computes table-computes rules-compute computes
+unfolding chars-compute tokens-compute entities-compute reading-computes table-computes rules-compute computes
 an-instance = of-definition draft list text table refl

@@ -15,7 +15,7 @@ use borrow.Fn.Kinds.{endedOf}
 use denote.Triple.Clauses.{AtExit}
 use Rattle.chars.specs.Limits.{limits}
 use Rattle.chars.proofs.Cases.{either}
-use Rattle.reading.specs.Entity.{Entity}
+use Rattle.entities.specs.Entity.{Entity}
 use Rattle.reading.specs.WellMade.{well-made}
 use Rattle.reading.specs.Reading.{Read, reading, readWith, roomOf, answered}
 use Rattle.reading.specs.declared.Answer.{Answer}

@@ -6,8 +6,8 @@ use mathlib.Core.Option.{Option, none, some}
 use lib.Dec.{eqb}
 use Rattle.chars.specs.Limits.{Limits}
 use Rattle.chars.specs.Choice.{if_then_else_}
-use Rattle.reading.specs.Entity.{Entity}
-use Rattle.reading.specs.Making.{Room}
+use Rattle.entities.specs.Entity.{Entity}
+use Rattle.entities.specs.Making.{Room}
 use Rattle.reading.specs.Reading.{Read, Reading, readWith, roomOf, answered}
 use Rattle.table.specs.Table.{Operation, operations}
 use Rattle.rules.specs.Cells.{Ended}

@@ -4,10 +4,10 @@ use Prim.Native.String.{String}
 use mathlib.Core.List.{List, [], _∷_, _++_}
 use lib.ListN.{length, replicate}
 use Rattle.chars.specs.Choice.{ascii}
-use Rattle.reading.specs.Entity.{Kind, Entity}
-use Rattle.reading.specs.Entity.{begin-metacommand, end-metacommand, metacommand-token}
-use Rattle.reading.specs.Entity.{begin-group, end-group, array, number, quoted-string, operation, end}
-use Rattle.reading.specs.Making.{Room}
+use Rattle.entities.specs.Entity.{Kind, Entity}
+use Rattle.entities.specs.Entity.{begin-metacommand, end-metacommand, metacommand-token}
+use Rattle.entities.specs.Entity.{begin-group, end-group, array, number, quoted-string, operation, end}
+use Rattle.entities.specs.Making.{Room}
 use Rattle.reading.specs.Reading.{Read}
 use Rattle.reading.specs.declared.Answer.{Answer}
 

@@ -6,9 +6,9 @@ use mathlib.Core.List.{List}
 use lib.ListN.{length, take}
 use lib.Seq.{take-append-seam}
 use Rattle.chars.specs.Limits.{Limits}
-use Rattle.reading.specs.Entity.{sizes, texts, rows}
+use Rattle.entities.specs.Entity.{sizes, texts, rows}
+use Rattle.entities.proofs.Listing.{texts-length, rows-length}
 use Rattle.reading.specs.Reading.{Read, Reading, readWith, answered, roomOf, reading}
-use Rattle.reading.proofs.Listing.{texts-length, rows-length}
 
 -- the same answer, and the same held at the front of each buffer
 pub record Alike (c d : Reading) : Type 0 where

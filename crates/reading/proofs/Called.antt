@@ -12,7 +12,7 @@ use borrow.Fn.Kinds.{endedOf}
 use denote.Triple.Clauses.{AtExit}
 use Rattle.chars.specs.Limits.{limits}
 use Rattle.chars.specs.Stream.{start}
-use Rattle.reading.specs.Entity.{Entity, sizes, texts, rows}
+use Rattle.entities.specs.Entity.{Entity, sizes, texts, rows}
 use Rattle.reading.specs.Reading.{reading, readWith, roomOf, answered}
 use Rattle.reading.specs.WellMade.{well-made}
 use Rattle.reading.proofs.Alike.{Alike}

@@ -20,9 +20,9 @@ use Rattle.tokens.specs.Tokens.{Whole, Tokens, tokens, between}
 use Rattle.tokens.proofs.Skipping.{by-character, reaches}
 use Rattle.tokens.proofs.Copying.{clean-zero}
 use Rattle.tokens.proofs.OneByOne.{Sound, OneByOne, more, final, none, one-by-one}
-use Rattle.reading.specs.Making.{fresh, Room}
+use Rattle.entities.specs.Making.{fresh, Room}
+use Rattle.entities.proofs.Cutting.{first-byte}
 use Rattle.reading.specs.Reading.{refusal, textOf, stringOf, readWith}
-use Rattle.reading.proofs.Cutting.{first-byte}
 use Rattle.reading.proofs.TextOf.{Every, nothing, Clear, all-clear}
 
 -- characters of RFC 3629 one behind the other, none of them nul

@@ -14,11 +14,11 @@ use Rattle.chars.specs.Stream.{start, streamAt}
 use Rattle.chars.proofs.Cases.{either, both}
 use Rattle.tokens.specs.Tokens.{Sort, simple, quoted, curly, Tokens, token, last, refused, tokens, between}
 use Rattle.tokens.proofs.Refused.{Numbered, numbered}
-use Rattle.reading.specs.Entity.{Entity, kindNumber, bare, begin-group, end-group}
-use Rattle.reading.specs.Making.{Reader, fresh, Judged, refuses, makes, within-groups, adds, group-begins, group-ends, element-ends}
-use Rattle.reading.specs.Making.{counted, array-ends, named, word, regular, command, string-kind, literal, closing, judged}
-use Rattle.reading.specs.Making.{judged-last}
-use Rattle.reading.specs.Making.{Room, shortage, Handled, stops, holds, fitted, handled}
+use Rattle.entities.specs.Entity.{Entity, kindNumber, bare, begin-group, end-group}
+use Rattle.entities.specs.Making.{Reader, fresh, Judged, refuses, makes, within-groups, adds, group-begins, group-ends, element-ends}
+use Rattle.entities.specs.Making.{counted, array-ends, named, word, regular, command, string-kind, literal, closing, judged}
+use Rattle.entities.specs.Making.{judged-last}
+use Rattle.entities.specs.Making.{Room, shortage, Handled, stops, holds, fitted, handled}
 use Rattle.reading.specs.Reading.{Read, refusal, success, before, taken, textOf, stringOf, entities, readWith}
 use Rattle.reading.specs.WellMade.{made, well-made}
 

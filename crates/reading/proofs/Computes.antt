@@ -1,17 +1,7 @@
 -- Naming `computes` on an `unfolding` line has every definition of this crate's specs/ compute there.
-use Rattle.reading.specs.Entity.{kindNumber, bare, size, sizes, texts, rows}
-use Rattle.reading.specs.Making.{within-groups, adds, group-begins, group-ends, element-ends, counted, array-ends, named, word}
-use Rattle.reading.specs.Making.{regular, command, string-kind, literal, closing, judged, judged-last, shortage, fitted, handled}
-use Rattle.reading.specs.Judging.{kindOf, bares, cut, filled, counting, written, textWritten, cutFrom, cutLength}
-use Rattle.reading.specs.Judging.{wordKind, textKind, cutOf}
-use Rattle.reading.specs.Stepping.{openGroups, below, judgedAs, closingAs, readerOf, roomLeft, agrees, took, structural, worded}
 use Rattle.reading.specs.Reading.{refusal, success, before, taken, textOf, stringOf, entities, readWith, answered, roomOf, reading}
 use Rattle.reading.specs.WellMade.{made, well-made}
 
 unfoldable pub computes : Unit {0}
-unfolding kindNumber bare size sizes texts rows within-groups adds group-begins group-ends element-ends counted array-ends named word
-    regular command string-kind literal closing judged judged-last shortage fitted handled kindOf bares cut filled counting written
-    textWritten cutFrom cutLength wordKind textKind cutOf openGroups below judgedAs
-    closingAs readerOf roomLeft agrees took structural worded refusal success before taken textOf stringOf entities readWith answered
-    roomOf reading made well-made
+unfolding refusal success before taken textOf stringOf entities readWith answered roomOf reading made well-made
 computes = tt

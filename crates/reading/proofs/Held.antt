@@ -11,12 +11,12 @@ use Rattle.chars.specs.Limits.{Limits}
 use Rattle.chars.specs.Stream.{start, streamAt}
 use Rattle.chars.proofs.Cases.{either}
 use Rattle.tokens.specs.Tokens.{Tokens, token, last, refused, tokens, between}
-use Rattle.reading.specs.Entity.{Entity, bare, sizes, texts, rows, begin-group}
-use Rattle.reading.specs.Making.{Reader, fresh, closing, Judged, refuses, makes, judged, judged-last, within-groups}
-use Rattle.reading.specs.Making.{Room, shortage, Handled, stops, holds, fitted, handled}
+use Rattle.entities.specs.Entity.{Entity, bare, sizes, texts, rows, begin-group}
+use Rattle.entities.specs.Making.{Reader, fresh, closing, Judged, refuses, makes, judged, judged-last, within-groups}
+use Rattle.entities.specs.Making.{Room, shortage, Handled, stops, holds, fitted, handled}
+use Rattle.entities.proofs.Listing.{texts-length, rows-length, sizes-append}
+use Rattle.entities.proofs.Shortages.{fits}
 use Rattle.reading.specs.Reading.{Read, refusal, success, before, taken, textOf, stringOf, entities, readWith}
-use Rattle.reading.proofs.Listing.{texts-length, rows-length, sizes-append}
-use Rattle.reading.proofs.Shortages.{fits}
 
 -- entities of which none is short of room
 pub record Fits (room : Room) (es : List Entity) : Type 0 where

@@ -11,7 +11,7 @@ use Rattle.chars.specs.Stream.{start, streamAt}
 use Rattle.chars.proofs.Cases.{either}
 use Rattle.tokens.specs.Tokens.{Tokens, token, last, refused, tokens, between}
 use Rattle.tokens.proofs.Refused.{Numbered, numbered}
-use Rattle.reading.specs.Making.{Reader, fresh, Room, Handled, stops, holds}
+use Rattle.entities.specs.Making.{Reader, fresh, Room, Handled, stops, holds}
 use Rattle.reading.specs.Reading.{Read, refusal, success, before, taken, entities, readWith}
 use Rattle.reading.proofs.Handled.{Held, token-held, last-held}
 

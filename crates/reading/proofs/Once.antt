@@ -15,7 +15,7 @@ use Rattle.chars.specs.Choice.{if_then_else_}
 use Rattle.chars.specs.Stream.{start, stream, streamAt, clean}
 use Rattle.chars.proofs.Cases.{either}
 use Rattle.tokens.specs.Tokens.{Tokens, token, last, refused, tokens, between}
-use Rattle.reading.specs.Making.{Reader, fresh, closing, judged, judged-last, Room, handled}
+use Rattle.entities.specs.Making.{Reader, fresh, closing, judged, judged-last, Room, handled}
 use Rattle.reading.specs.Reading.{Read, refusal, success, taken, textOf, stringOf, entities, readWith}
 use Rattle.reading.specs.Reading.{Reading, answered, roomOf, reading}
 use Rattle.reading.proofs.Through.{taken-same}

@@ -15,8 +15,8 @@ use Rattle.chars.proofs.Cases.{either}
 use Rattle.chars.proofs.Same.{shorter}
 use Rattle.tokens.specs.Tokens.{Tokens}
 use Rattle.tokens.proofs.Refused.{Chain, and-then, closing, ending, chain}
-use Rattle.reading.specs.Entity.{Entity}
-use Rattle.reading.specs.Making.{Reader, fresh, Room, Handled, stops, holds}
+use Rattle.entities.specs.Entity.{Entity}
+use Rattle.entities.specs.Making.{Reader, fresh, Room, Handled, stops, holds}
 use Rattle.reading.specs.Reading.{Read, refusal, success, before, taken, entities, readWith}
 use Rattle.reading.proofs.Handled.{All, nothing, also, Held, token-held, last-held}
 

@@ -12,9 +12,9 @@ use Rattle.chars.specs.Limits.{Limits}
 use Rattle.chars.specs.Stream.{start, streamAt}
 use Rattle.chars.proofs.Cases.{either}
 use Rattle.tokens.specs.Tokens.{Tokens, token, last, refused, tokens, between}
-use Rattle.reading.specs.Entity.{Entity, bare, size, sizes, texts, rows, begin-group}
-use Rattle.reading.specs.Making.{Reader, fresh, closing, Judged, refuses, makes, judged, judged-last, within-groups}
-use Rattle.reading.specs.Making.{Room, shortage, Handled, stops, holds, fitted, handled}
+use Rattle.entities.specs.Entity.{Entity, bare, size, sizes, texts, rows, begin-group}
+use Rattle.entities.specs.Making.{Reader, fresh, closing, Judged, refuses, makes, judged, judged-last, within-groups}
+use Rattle.entities.specs.Making.{Room, shortage, Handled, stops, holds, fitted, handled}
 use Rattle.reading.specs.Reading.{Read, refusal, before, taken, success, textOf, stringOf, entities, readWith}
 use Rattle.reading.specs.Reading.{answered, roomOf, reading}
 use Rattle.reading.proofs.Alike.{Alike, reading-alike}

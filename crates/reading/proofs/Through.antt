@@ -19,7 +19,7 @@ use Rattle.tokens.proofs.Classes.{foreign}
 use Rattle.tokens.proofs.Refused.{Numbered, numbered}
 use Rattle.tokens.proofs.Skipping.{by-character, own-byte}
 use Rattle.tokens.proofs.Spans.{fewer}
-use Rattle.reading.specs.Making.{Reader, fresh, Room, Handled, stops, holds}
+use Rattle.entities.specs.Making.{Reader, fresh, Room, Handled, stops, holds}
 use Rattle.reading.specs.Reading.{Read, refusal, success, before, taken, textOf, stringOf, entities, readWith}
 use Rattle.reading.specs.Reading.{answered, roomOf, reading}
 use Rattle.reading.proofs.Alike.{Alike, reading-alike}

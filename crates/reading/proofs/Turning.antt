@@ -22,17 +22,17 @@ use Rattle.scan.specs.Bytes.{beginsOf, beginsAt}
 use Rattle.scan.specs.Found.{pieceOf, Finds, passes, tells}
 use Rattle.scan.specs.declared.Piece.{Piece}
 use Rattle.scan.proofs.Starts.{blank-byte, alone-other}
-use Rattle.reading.specs.Entity.{sizes}
-use Rattle.reading.specs.Making.{fitted, handled, judged, command}
-use Rattle.reading.specs.Judging.{bares}
+use Rattle.entities.specs.Entity.{sizes}
+use Rattle.entities.specs.Making.{fitted, handled, judged, command}
+use Rattle.entities.specs.Judging.{bares}
+use Rattle.entities.specs.Stepping.{Contents, Ready, Steady, openGroups, roomLeft, readerOf, agrees, Took, Goes, Stops, judgedAs}
+use Rattle.entities.specs.Stepping.{closingAs}
+use Rattle.entities.specs.Stepping.{structural, worded}
+use Rattle.entities.specs.declared.state.State.{State}
+use Rattle.entities.proofs.Listing.{written-none, text-none}
+use Rattle.entities.proofs.Cutting.{first-byte}
 use Rattle.reading.specs.Reading.{Read, refusal, before, entities}
-use Rattle.reading.specs.Stepping.{Contents, Ready, Steady, openGroups, roomLeft, readerOf, agrees, Took, Goes, Stops, judgedAs}
-use Rattle.reading.specs.Stepping.{closingAs}
-use Rattle.reading.specs.Stepping.{structural, worded, ahead}
-use Rattle.reading.specs.Rounds.{goesRound, On, Over, behindOf}
-use Rattle.reading.specs.declared.state.State.{State}
-use Rattle.reading.proofs.Listing.{written-none, text-none}
-use Rattle.reading.proofs.Cutting.{first-byte}
+use Rattle.reading.specs.Rounds.{ahead, goesRound, On, Over, behindOf}
 use Rattle.reading.proofs.Walking.{Taken, later, behind-here, here}
 
 -- the draft ends

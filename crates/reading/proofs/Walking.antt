@@ -14,21 +14,21 @@ use Rattle.chars.specs.Stream.{start, streamAt, clean}
 use Rattle.tokens.specs.Tokens.{Sort, simple, quoted, curly, Whole, Tokens, token, last, tokens, between, first, shown, tokenAt}
 use Rattle.tokens.proofs.OneByOne.{OneByOne, more, final, none, Sound, one-by-one}
 use Rattle.tokens.proofs.Copying.{clean-zero}
-use Rattle.reading.specs.Entity.{Entity, sizes, texts, rows}
-use Rattle.reading.specs.Making.{Reader, Room, Handled, stops, holds, handled, closing, judged}
-use Rattle.reading.specs.Judging.{written, textWritten}
-use Rattle.reading.specs.Reading.{Read, refusal, success, before, taken, textOf, stringOf, entities, readWith, reading, answered}
-use Rattle.reading.specs.Reading.{roomOf}
-use Rattle.holding.specs.Text.{unchanged}
 use Rattle.scan.specs.Found.{pieceOf}
 use Rattle.scan.specs.declared.Piece.{Piece}
-use Rattle.reading.specs.Stepping.{Contents, Ready, openGroups, below, roomLeft, readerOf, agrees, sorted, judgedAs, closingAs}
-use Rattle.reading.specs.Stepping.{SoFar, ahead, Took, Goes, Stops}
-use Rattle.reading.specs.Rounds.{Went, goesRound, On, Over, behindOf, endedOf}
+use Rattle.holding.specs.Text.{unchanged}
+use Rattle.entities.specs.Entity.{Entity, sizes, texts, rows}
+use Rattle.entities.specs.Making.{Reader, Room, Handled, stops, holds, handled, closing, judged}
+use Rattle.entities.specs.Judging.{written, textWritten}
+use Rattle.entities.specs.Stepping.{Contents, Ready, openGroups, below, roomLeft, readerOf, agrees, sorted, judgedAs, closingAs}
+use Rattle.entities.specs.Stepping.{Took, Goes, Stops}
+use Rattle.entities.specs.declared.state.State.{State}
+use Rattle.entities.proofs.OpenGroups.{higher}
+use Rattle.entities.proofs.Listing.{written-none, written-more, text-none, text-more, sizes-append}
+use Rattle.reading.specs.Reading.{Read, refusal, success, before, taken, textOf, stringOf, entities, readWith, reading, answered}
+use Rattle.reading.specs.Reading.{roomOf}
+use Rattle.reading.specs.Rounds.{SoFar, ahead, Went, goesRound, On, Over, behindOf, endedOf}
 use Rattle.reading.specs.declared.Answer.{Answer}
-use Rattle.reading.specs.declared.state.State.{State}
-use Rattle.reading.proofs.OpenGroups.{higher}
-use Rattle.reading.proofs.Listing.{written-none, written-more, text-none, text-more, sizes-append}
 
 -- what reading comes to at a token: it is handled, and then the tokens behind it are read, or it was the last
 abbrev Comes : (draft : List ℕ) → Piece → Tokens → Type 0

@@ -5,9 +5,9 @@ use mathlib.Core.List.{List}
 use native.Mathlib.Omega.{arith}
 use lib.ListN.{length, drop, length-append, length-drop}
 use Rattle.chars.specs.Limits.{Limits}
-use Rattle.reading.specs.Entity.{rows}
+use Rattle.entities.specs.Entity.{rows}
+use Rattle.entities.proofs.Listing.{rows-length}
 use Rattle.reading.specs.Reading.{reading, readWith, answered, roomOf}
-use Rattle.reading.proofs.Listing.{rows-length}
 
 pub within-list :
     (L : Limits) (draft list text : List ℕ) (entities : ℕ) (after : List ℕ) → entities ≡ reading L draft list text .answer .entities

@@ -8,8 +8,8 @@ use Rattle.chars.specs.Limits.{Limits}
 use Rattle.chars.specs.Choice.{if_then_else_}
 use Rattle.chars.specs.Stream.{start, streamAt, clean}
 use Rattle.tokens.specs.Tokens.{Whole, Tokens, token, last, refused, tokens, between}
-use Rattle.reading.specs.Entity.{Entity, sizes, texts, rows}
-use Rattle.reading.specs.Making.{Reader, fresh, closing, judged, judged-last, Room, Handled, stops, holds, handled}
+use Rattle.entities.specs.Entity.{Entity, sizes, texts, rows}
+use Rattle.entities.specs.Making.{Reader, fresh, closing, judged, judged-last, Room, Handled, stops, holds, handled}
 use Rattle.reading.specs.declared.Answer.{Answer}
 
 -- What was read: the entities held, and then the byte after `;`, or a refusal with its place.

@@ -4,12 +4,15 @@ use mathlib.Core.Path.{_≡_}
 use mathlib.Core.List.{List, []}
 use lib.Dec.{eqb}
 use lib.ListN.{length}
-use Rattle.reading.specs.Entity.{Entity, sizes}
-use Rattle.reading.specs.Judging.{written, textWritten}
-use Rattle.reading.specs.Reading.{Read, before}
 use Rattle.chars.specs.Choice.{if_then_else_}
-use Rattle.reading.specs.Stepping.{Ready, ahead, Took, Goes, Stops}
-use Rattle.reading.specs.declared.state.State.{State}
+use Rattle.chars.specs.Limits.{limits}
+use Rattle.chars.specs.Stream.{streamAt}
+use Rattle.tokens.specs.Tokens.{tokens, between}
+use Rattle.entities.specs.Entity.{Entity, sizes}
+use Rattle.entities.specs.Judging.{written, textWritten}
+use Rattle.entities.specs.Stepping.{Ready, roomLeft, readerOf, Took, Goes, Stops}
+use Rattle.entities.specs.declared.state.State.{State}
+use Rattle.reading.specs.Reading.{Read, before, readWith, roomOf, entities}
 use Rattle.reading.specs.declared.round.Round.{Round}
 
 -- What a round comes to, as the code has it: reading goes on at a place, or is over: 0 and the byte after `;`, or a refusal and its place.
@@ -29,6 +32,23 @@ behindOf (Goes t) place after = On t after
 unfoldable pub endedOf : Took → (place after : ℕ) → Turn
 endedOf (Stops number t) place after = Over number place t 0
 endedOf (Goes t) place after = Over 0 0 t after
+
+-- what the tokens from a place on still come to
+unfoldable pub ahead : (draft list text groups : List ℕ) → State → (at : ℕ) → Read
+ahead draft list text groups s at =
+    entities limits draft (roomLeft s list text) (readerOf s groups) (tokens limits between (streamAt draft at))
+
+-- What is read so far: entities that both buffers hold, and behind them `x` is still to be read.
+pub record SoFar (draft list₀ text₀ list text groups : List ℕ) (s : State) (at : ℕ) (x : Read) : Type 0 where
+  pub es : List Entity
+  pub list-is : list ≡ written list₀ 0 0 es
+  pub text-is : text ≡ textWritten text₀ 0 es
+  pub many : s .entities ≡ length es
+  pub much : s .text ≡ sizes es
+  pub same-list : length list ≡ length list₀
+  pub same-text : length text ≡ length text₀
+  pub ready : Ready s list text groups at
+  pub rest : readWith limits (roomOf list₀ text₀) draft ≡ before es x
 
 -- Entities were written, and behind them `x` is still to be read.
 pub record Went (draft list text groups : List ℕ) (s : State) (at : ℕ) (t : State) (list′ text′ : List ℕ) (x : Read) : Type 0 where

@@ -7,7 +7,7 @@ use lib.Dec.{ltb, eqb}
 use lib.ListN.{length}
 use Rattle.chars.specs.Limits.{Limits}
 use Rattle.chars.specs.Choice.{if_then_else_, within}
-use Rattle.reading.specs.Entity.{Entity, kindNumber}
+use Rattle.entities.specs.Entity.{Entity, kindNumber}
 
 -- entities inside a metacommand or not, with `depth` groups open
 unfoldable pub made : (most : ℕ) → (metacommand : Bool) → (depth : ℕ) → List Entity → Bool

@@ -5,21 +5,11 @@ ghost use lib.ListN.{length};
 ghost use Rattle.chars.specs.Limits.{limits as base};
 ghost use Rattle.reading.specs.Reading.{reading as readingOf};
 
-mod arrays;
-mod bare;
-mod brought;
-mod groups;
-mod last;
-mod metacommands;
-mod open;
 mod round;
-mod state;
-mod structure;
-mod texts;
 
 use chars::limits;
+use entities::state::State;
 use round::go_round;
-use state::State;
 
 // The answer of read and of check. A number that an answer has no use for is 0.
 #[repr(C)]

@@ -4,16 +4,16 @@ ghost use Prim.Native.Nat.{_≤_, _<_};
 ghost use lib.ListN.{length, getD};
 ghost use Rattle.scan.specs.Bytes.{beginsAt};
 ghost use Rattle.scan.specs.Opens.{Ended as EndedBy};
-ghost use Rattle.reading.specs.Stepping.{Ready, took};
+ghost use Rattle.entities.specs.Stepping.{Ready, took};
 ghost use Rattle.reading.specs.Rounds.{goesRound, turn, behindOf, endedOf};
-use crate::last::last;
-use crate::metacommands::metacommand_ends;
-use crate::state::State;
-use crate::state::Step;
-use crate::structure::structure;
-use crate::texts::take;
-use crate::texts::take_word;
+use entities::last::last;
+use entities::metacommands::metacommand_ends;
+use entities::state::State;
+use entities::state::Step;
+use entities::structure::structure;
 use scan::word::Ended;
+use texts::take;
+use texts::take_word;
 
 // What a round comes to. All are numbers of one width, as in state.rt.
 pub struct Round {

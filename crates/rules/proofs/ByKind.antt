@@ -4,10 +4,10 @@ use mathlib.Core.Bool.{Bool, true, false}
 use mathlib.Core.List.{List, [], _∷_}
 use Prim.Native.Nat.{ℕ}
 use Rattle.chars.specs.Limits.{Limits}
-use Rattle.reading.specs.Entity.{Kind, Entity}
-use Rattle.reading.specs.Entity.{begin-metacommand, end-metacommand, metacommand-token, metacommand-quoted, metacommand-curly}
-use Rattle.reading.specs.Entity.{begin-group, end-group, array, number, quoted-string, curly-string}
-use Rattle.reading.specs.Entity.{define-variable, define-constant, get, put, operation, end}
+use Rattle.entities.specs.Entity.{Kind, Entity}
+use Rattle.entities.specs.Entity.{begin-metacommand, end-metacommand, metacommand-token, metacommand-quoted, metacommand-curly}
+use Rattle.entities.specs.Entity.{begin-group, end-group, array, number, quoted-string, curly-string}
+use Rattle.entities.specs.Entity.{define-variable, define-constant, get, put, operation, end}
 use Rattle.table.specs.Table.{Operation, find}
 use Rattle.rules.specs.Cells.{Cell, State, Did, goes, stops, lookup, push, hide, show, define, fetch, assign, operate, act}
 

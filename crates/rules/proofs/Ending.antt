@@ -13,7 +13,7 @@ use borrow.Author.Tests.{leb-true}
 use Rattle.chars.specs.Limits.{Limits}
 use Rattle.chars.specs.Choice.{if_then_else_, within}
 use Rattle.chars.proofs.Cases.{both}
-use Rattle.reading.specs.Entity.{Entity}
+use Rattle.entities.specs.Entity.{Entity}
 use Rattle.table.specs.Table.{Item, one, array-of, Operation, find}
 use Rattle.rules.specs.Cells.{Amount, amount, none-by, Cell, Name, State, Did, goes, stops, Taken, leaves, refuses, Ended, cellsOf}
 use Rattle.rules.specs.Cells.{lookup, not-too-many, push, hide, show, new, define, fetch, store, assign, all-of, take-array}

@@ -8,7 +8,7 @@ use native.Mathlib.Omega.{arith}
 use lib.ListN.{length}
 use Rattle.chars.specs.Limits.{Limits}
 use Rattle.chars.specs.Choice.{within}
-use Rattle.reading.specs.Entity.{Entity, end-group}
+use Rattle.entities.specs.Entity.{Entity, end-group}
 use Rattle.table.specs.Table.{Operation}
 use Rattle.rules.specs.Cells.{Cell, State, Did, goes, Ended, cellsOf, total, innermost, outer, act, through, empty}
 use Rattle.rules.specs.Kinds.{Checked, of, count, kindOf, wantedOf, kinds, check}

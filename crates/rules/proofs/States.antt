@@ -10,7 +10,7 @@ use lib.ListN.{length}
 use Rattle.chars.specs.Limits.{Limits}
 use Rattle.chars.specs.Choice.{same}
 use Rattle.chars.proofs.Cases.{either}
-use Rattle.reading.specs.Entity.{Entity, begin-group, end-group}
+use Rattle.entities.specs.Entity.{Entity, begin-group, end-group}
 use Rattle.table.specs.Table.{Operation, find}
 use Rattle.rules.specs.Cells.{Cell, Name, State, Did, goes, stops, Taken, leaves, refuses, cellsOf, lookup, changed, not-too-many}
 use Rattle.rules.specs.Cells.{in-sight, push, hide, innermost, outer, show, new, define, fetch, store, assign, take-items, given}

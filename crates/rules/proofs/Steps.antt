@@ -10,10 +10,10 @@ use native.Mathlib.Omega.{arith}
 use lib.ListN.{length, take}
 use borrow.Author.Tests.{eq-eqb}
 use Rattle.chars.specs.Limits.{Limits}
-use Rattle.reading.specs.Entity.{Kind, Entity}
-use Rattle.reading.specs.Entity.{begin-metacommand, end-metacommand, metacommand-token, metacommand-quoted, metacommand-curly}
-use Rattle.reading.specs.Entity.{begin-group, end-group, array, number, quoted-string, curly-string}
-use Rattle.reading.specs.Entity.{define-variable, define-constant, get, put, operation, end}
+use Rattle.entities.specs.Entity.{Kind, Entity}
+use Rattle.entities.specs.Entity.{begin-metacommand, end-metacommand, metacommand-token, metacommand-quoted, metacommand-curly}
+use Rattle.entities.specs.Entity.{begin-group, end-group, array, number, quoted-string, curly-string}
+use Rattle.entities.specs.Entity.{define-variable, define-constant, get, put, operation, end}
 use Rattle.table.specs.Table.{Operation, find}
 use Rattle.rules.specs.Cells.{Name, State, goes, lookup, not-too-many, push, hide, new, define, fetch, store, assign}
 use Rattle.rules.specs.Cells.{given as givenOf, operate, act}

@@ -12,7 +12,7 @@ use lib.ListN.{length}
 use borrow.Author.Tests.{ltb-true, ltb-false, lt-ltb, le-ltb}
 use Rattle.chars.specs.Limits.{Limits}
 use Rattle.chars.proofs.Cases.{either}
-use Rattle.reading.specs.Entity.{Entity}
+use Rattle.entities.specs.Entity.{Entity}
 use Rattle.table.specs.Table.{Operation, find}
 use Rattle.rules.specs.Cells.{Cell, Name, State, goes, Taken, leaves, refuses, total, cellsOf, lookup, not-too-many}
 use Rattle.rules.specs.Cells.{in-sight, push, hide, innermost, outer, show, new, define, fetch, store, assign, take-items, given}

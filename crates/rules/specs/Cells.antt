@@ -8,10 +8,10 @@ use lib.Dec.{leb, ltb, eqb}
 use lib.ListN.{length, take, drop}
 use Rattle.chars.specs.Limits.{Limits}
 use Rattle.chars.specs.Choice.{if_then_else_, same}
-use Rattle.reading.specs.Entity.{Kind, Entity}
-use Rattle.reading.specs.Entity.{begin-metacommand, end-metacommand, metacommand-token, metacommand-quoted, metacommand-curly}
-use Rattle.reading.specs.Entity.{begin-group, end-group, array, number, quoted-string, curly-string}
-use Rattle.reading.specs.Entity.{define-variable, define-constant, get, put, operation, end}
+use Rattle.entities.specs.Entity.{Kind, Entity}
+use Rattle.entities.specs.Entity.{begin-metacommand, end-metacommand, metacommand-token, metacommand-quoted, metacommand-curly}
+use Rattle.entities.specs.Entity.{begin-group, end-group, array, number, quoted-string, curly-string}
+use Rattle.entities.specs.Entity.{define-variable, define-constant, get, put, operation, end}
 use Rattle.table.specs.Table.{Item, one, array-of, Operation, find}
 
 -- how many cells an array item takes behind its number cell, or the rule that refuses it

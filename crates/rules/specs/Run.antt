@@ -3,7 +3,7 @@ use Prim.Native.Nat.{ℕ, suc}
 use mathlib.Core.Bool.{Bool}
 use mathlib.Core.List.{List, [], _∷_}
 use Rattle.chars.specs.Limits.{Limits}
-use Rattle.reading.specs.Entity.{Entity}
+use Rattle.entities.specs.Entity.{Entity}
 use Rattle.table.specs.Table.{Operation}
 use Rattle.rules.specs.Cells.{Amount, amount, none-by, Cell, State, goes, stops, Ended, act, through, empty}
 

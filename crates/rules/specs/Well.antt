@@ -7,7 +7,7 @@ use mathlib.Core.List.{List, [], _∷_, _++_}
 use mathlib.Core.Logic.{_⊎_}
 use lib.ListN.{length, take, drop}
 use Rattle.chars.specs.Limits.{Limits}
-use Rattle.reading.specs.Entity.{Kind, Entity, begin-group, end-group, define-variable, define-constant, get, put, operation}
+use Rattle.entities.specs.Entity.{Kind, Entity, begin-group, end-group, define-variable, define-constant, get, put, operation}
 use Rattle.table.specs.Table.{Item, one, array-of, Operation}
 use Rattle.rules.specs.Cells.{State, cellsOf}
 use Rattle.rules.specs.Run.{Whole, plus, minus, Value, Outside, run, states}

@@ -6,8 +6,7 @@ use native.Mathlib.Omega.{arith}
 use lib.ListN.{length}
 use borrow.Author.Needs.{needs}
 use borrow.Author.Tests.{eq-eqb, ne-eqb}
-use Rattle.reading.specs.Stepping.{SoFar, ahead}
-use Rattle.reading.specs.Rounds.{goesRound, turn}
+use Rattle.reading.specs.Rounds.{SoFar, ahead, goesRound, turn}
 use Rattle.reading.proofs.Walking.{at-first, further, finished}
 use Rattle.reading.proofs.walk.Statement.{statement}
 use Rattle.reading.proofs.walk.Tie as tie

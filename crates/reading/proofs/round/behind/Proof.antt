@@ -2,7 +2,7 @@
 use mathlib.Core.Path.{sym, _∙_}
 use borrow.Author.Needs.{needs}
 use borrow.Author.Tests.{eq-eqb, ne-eqb}
-use Rattle.reading.specs.Stepping.{took}
+use Rattle.entities.specs.Stepping.{took}
 use Rattle.reading.specs.Rounds.{turn, behindOf}
 use Rattle.reading.proofs.round.behind.Statement.{statement}
 use Rattle.reading.proofs.round.behind.Tie as tie

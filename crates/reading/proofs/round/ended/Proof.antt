@@ -1,7 +1,7 @@
 -- `reading::round::ended` meets its contract: a step goes on where its number is 0. Assumes nothing.
 use borrow.Author.Needs.{needs}
 use borrow.Author.Tests.{eq-eqb, ne-eqb}
-use Rattle.reading.specs.Stepping.{took}
+use Rattle.entities.specs.Stepping.{took}
 use Rattle.reading.specs.Rounds.{turn, endedOf}
 use Rattle.reading.proofs.round.ended.Statement.{statement}
 use Rattle.reading.proofs.round.ended.Tie as tie

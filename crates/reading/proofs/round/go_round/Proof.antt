@@ -6,7 +6,7 @@ use mathlib.Core.Logic.{⊎-elim}
 use native.Mathlib.Omega.{arith}
 use borrow.Author.Tests.{eq-eqb, ne-eqb}
 use Rattle.scan.proofs.Starts.{own-number}
-use Rattle.reading.specs.Stepping.{Ruled, structural}
+use Rattle.entities.specs.Stepping.{Ruled, structural}
 use Rattle.reading.specs.Rounds.{turn}
 use Rattle.reading.proofs.Turning.{ends-on, steady, blank-on, alone-on, by-itself, again-on, at-three, with-text, word-taken}
 use Rattle.reading.proofs.Turning.{word-on}

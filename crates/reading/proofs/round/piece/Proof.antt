@@ -8,7 +8,7 @@ use lib.Dec.{eqb}
 use lib.ListN.{length, getD}
 use borrow.Author.Needs.{needs}
 use Rattle.chars.specs.Limits.{limits}
-use Rattle.reading.specs.Stepping.{judgedAs, closingAs, sorted}
+use Rattle.entities.specs.Stepping.{judgedAs, closingAs, sorted}
 use Rattle.reading.specs.Rounds.{turn}
 use Rattle.reading.proofs.Walking.{here, refused-here, behind-here, ended-here, later}
 use Rattle.reading.proofs.Turning.{steady, passed-on, at-three, with-text, Token-found, blank-found, token-found}

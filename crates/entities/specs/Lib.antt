@@ -1,0 +1,4 @@
+pub mod Entity
+pub mod Making
+pub mod Judging
+pub mod Stepping

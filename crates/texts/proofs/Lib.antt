@@ -1,0 +1,5 @@
+mod Filling
+mod OneEntity
+mod Worded
+mod Roomed
+pub mod Unique
