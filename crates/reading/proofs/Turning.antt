@@ -21,7 +21,7 @@ use Rattle.tokens.proofs.Copying.{clean-zero}
 use Rattle.scan.specs.Bytes.{beginsOf, beginsAt}
 use Rattle.scan.specs.Found.{pieceOf, Finds, passes, tells}
 use Rattle.scan.specs.declared.Piece.{Piece}
-use Rattle.scan.proofs.Starts.{blank-byte, alone-other}
+use Rattle.scan.proofs.Starts.{alone-other}
 use Rattle.entities.specs.Entity.{sizes}
 use Rattle.entities.specs.Making.{fitted, handled, judged, command}
 use Rattle.entities.specs.Judging.{bares}
@@ -73,9 +73,6 @@ module _ (draft list text groups : List ℕ) (s : State) (at : ℕ) (there : at 
     on,
     there,
   )
-
-  pub blank-on : beginsOf (getD draft at 0) ≡ 1 → goesRound draft list text groups s at (On s (at + 1)) list text groups
-  blank-on e = passed-on (at + 1) (omega arith) (blank-byte draft at there e)
 
   -- a simple token up to `i`
   module _ (i : ℕ) (simple : tokenAt limits draft at ≡ Simple at i (i - at)) where

@@ -6,7 +6,7 @@ use mathlib.Core.List.{List, [], _++_, append-nil, append-assoc}
 use Prim.Native.Nat.{ℕ, _+_, _-_, _<_, _≤_, _/_}
 use native.Mathlib.Omega.{arith}
 use lib.Dec.{eqb}
-use lib.ListN.{length, length-append}
+use lib.ListN.{length, drop, length-append}
 use borrow.Author.Tests.{eq-eqb, ne-eqb, lt-ltb, le-ltb}
 use Rattle.chars.specs.Choice.{if_then_else_}
 use Rattle.chars.specs.Limits.{limits}
@@ -14,8 +14,10 @@ use Rattle.chars.specs.Stream.{start, streamAt, clean}
 use Rattle.tokens.specs.Tokens.{Sort, simple, quoted, curly, Whole, Tokens, token, last, tokens, between, first, shown, tokenAt}
 use Rattle.tokens.proofs.OneByOne.{OneByOne, more, final, none, Sound, one-by-one}
 use Rattle.tokens.proofs.Copying.{clean-zero}
+use Rattle.scan.specs.Bytes.{blanks}
 use Rattle.scan.specs.Found.{pieceOf}
 use Rattle.scan.specs.declared.Piece.{Piece}
+use Rattle.scan.proofs.Blanks.{behind-blanks}
 use Rattle.holding.specs.Text.{unchanged}
 use Rattle.entities.specs.Entity.{Entity, sizes, texts, rows}
 use Rattle.entities.specs.Making.{Reader, Room, Handled, stops, holds, handled, closing, judged}
@@ -140,7 +142,8 @@ module _ (draft : List ℕ) (at : ℕ) where
       }
 
   pub go-on :
-      (ts : Tokens) → OneByOne limits token-limit draft at ts → (pieceOf (first ts) .sort ≡ 4 → ⊥) → Taken draft at (pieceOf (first ts)) ts
+      (ts : Tokens) → OneByOne limits token-limit draft at ts → (pieceOf (first ts) .sort ≡ 4 → ⊥) → Taken draft at (pieceOf (first ts))
+      ts
   unfolding pieceOf first
   go-on ts (more w so) some = whole w (w .sort) refl so
   go-on ts (final place after b o t) some = finally place after b o t
@@ -285,6 +288,27 @@ later s list text groups at place h ready =
       numbers = higher _ (at + 1) (place + 1) (omega arith) (ready .numbers);
     }
 
+-- behind whitespace all is as before it
+pub past-whitespace :
+    (draft list₀ text₀ list text groups : List ℕ) (s : State) (at place : ℕ) → place ≡ at + blanks (drop at draft)
+    → SoFar draft list₀ text₀ list text groups s at (ahead draft list text groups s at)
+    → SoFar draft list₀ text₀ list text groups s place (ahead draft list text groups s place)
+unfolding ahead
+past-whitespace draft list₀ text₀ list text groups s at place is so =
+    record {
+      es = so .es;
+      list-is = so .list-is;
+      text-is = so .text-is;
+      many = so .many;
+      much = so .much;
+      same-list = so .same-list;
+      same-text = so .same-text;
+      ready = later s list text groups at place (omega arith) (so .ready);
+      rest = so .rest
+          ∙ ap (λ t. before (so .es) (entities limits draft (roomLeft s list text) (readerOf s groups) t))
+          (rw is (behind-blanks draft at));
+    }
+
 -- One token, as the code has it.
 module _ (draft list text groups : List ℕ) (s : State) (at : ℕ) (f : Piece) (is : f ≡ pieceOf (tokenAt limits draft at)) where
   pub here : (f .sort ≡ 4 → ⊥) → Taken draft at f (tokens limits between (streamAt draft at))
@@ -311,7 +335,8 @@ module _ (draft list text groups : List ℕ) (s : State) (at : ℕ) (f : Piece) 
     comes =
         handled limits (roomLeft s list text) (readerOf s groups) (closingAs (f .sort) (clean (f .prefix) (streamAt draft (f .place))))
         (f .place)
-        (λ q. judgedAs (f .sort) q (f .place) (clean (f .prefix) (streamAt draft (f .place))) (clean (f .bytes) (streamAt draft (f .from))))
+        (λ q. judgedAs (f .sort) q (f .place) (clean (f .prefix) (streamAt draft (f .place))) (clean (f .bytes) (streamAt draft (f
+        .from))))
 
     abbrev next : Room → Reader → Read
     next room r = if eqb (f .sort) 3 then success (f .after) else entities limits draft room r

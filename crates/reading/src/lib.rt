@@ -10,6 +10,7 @@ mod round;
 use chars::limits;
 use entities::state::State;
 use round::go_round;
+use scan::blank::past_blanks;
 
 // The answer of read and of check. A number that an answer has no use for is 0.
 #[repr(C)]
@@ -66,7 +67,8 @@ fn walk(draft: &[u8], list: &mut [u32], text: &mut [u8], groups: &mut [u32]) -> 
         text: 0,
     };
     loop {
-        let r = go_round(draft, list, text, groups, s, at);
+        let place = past_blanks(draft, at);
+        let r = go_round(draft, list, text, groups, s, place);
         let state = r.state;
         if r.over != 0 {
             return told(r.number, r.place, state, r.after);

@@ -135,9 +135,6 @@ pub fn go_round(
     }
     let b = draft[at];
     let begins = scan::begins_at(draft, at);
-    if begins == 1 {
-        return on(s, at + 1);
-    }
     let mode = s.mode;
     if begins == 3 {
         if mode != 2 {

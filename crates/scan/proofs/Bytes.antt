@@ -1,13 +1,13 @@
--- A `match` on a byte, by what antt computes at every byte: an arm lists bytes, and in `_` no arm lists the byte. Comparisons tell a range,
--- but for some bytes of it, and a bit of a number tells one byte. CR before LF is one LF.
+-- A `match` on a byte, by what antt computes at every byte: an arm lists bytes, and in `_` no arm lists the byte. Comparisons tell a
+-- range,
+-- but for some bytes of it. CR before LF is one LF.
 use mathlib.Core.Path.{_≡_, refl, sym}
 use mathlib.Core.Bool.{Bool, true, false, not, _&&_}
 use mathlib.Core.List.{List, [], _∷_}
-use Prim.Native.Nat.{ℕ, suc, _+_, _/_, _^_, _<_, _≤_}
+use Prim.Native.Nat.{ℕ, suc, _+_, _<_, _≤_}
 use native.Mathlib.Omega.{arith}
 use native.Mathlib.Numerals.{add-one}
 use lib.Dec.{eqb}
-use lib.Bits.{bitAnd}
 use lib.ListN.{length, getD, drop, drop-of-length-le}
 use lib.Seq.{drop-cons}
 use mir.Val.{hasKey}
@@ -55,7 +55,7 @@ abbrev pub None : List ℕ → (b : ℕ) → Type 0
 None [] b = Unit {0}
 None (m ∷ ms) b = (b ≡ m → ⊥) × None ms b
 
-not-among : (ms : List ℕ) (b : ℕ) → None ms b → not (among b ms) ≡ true
+pub not-among : (ms : List ℕ) (b : ℕ) → None ms b → not (among b ms) ≡ true
 not-among [] b none = refl
 not-among (m ∷ ms) b none = rw (ne-eqb b m (none .0)) (not-among ms b (none .1))
 
@@ -73,19 +73,11 @@ same true y e = sym e
 same false true e = e
 same false false e = refl
 
--- at every byte of a range its bit in a number tells whether it begins a word
-pub told-by-its-bit :
-    (bits low high : ℕ)
-    → below
-    (λ k. if-then (within low high k)
-    (if eqb (bitAnd (bits / 2 ^ bitAnd k 0x3F) 1) 0 then eqb (beginsOf k) 6 else not (eqb (beginsOf k) 6))) 256
-    ≡ true
-    → (b : ℕ) → b < 256 → low ≤ b → b ≤ high → eqb (bitAnd (bits / 2 ^ bitAnd b 0x3F) 1) 0 ≡ eqb (beginsOf b) 6
-told-by-its-bit bits low high t b h g l =
-    same (eqb (bitAnd (bits / 2 ^ bitAnd b 0x3F) 1) 0) (eqb (beginsOf b) 6)
-    (implied (within low high)
-    (λ k. if eqb (bitAnd (bits / 2 ^ bitAnd k 0x3F) 1) 0 then eqb (beginsOf k) 6 else not (eqb (beginsOf k) 6)) 256 t b h
-    (rw (le-leb low b g, le-leb b high l) refl))
+-- two tests that agree at every byte of some sort
+pub agree :
+    (f g s : ℕ → Bool) → below (λ k. if-then (s k) (if f k then g k else not (g k))) 256 ≡ true → (b : ℕ) → b < 256 → s b ≡ true
+    → f b ≡ g b
+agree f g s t b h p = same (f b) (g b) (implied s (λ k. if f k then g k else not (g k)) 256 t b h p)
 
 -- CR before LF
 pub line-at :

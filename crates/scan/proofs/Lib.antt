@@ -7,6 +7,7 @@ pub mod Data
 pub mod Sorts
 pub mod Words
 pub mod Starts
+pub mod Blanks
 pub mod Places
 pub mod Finding
 pub mod Unique

@@ -1,4 +1,5 @@
--- No second answer meets the contract of a public function of `scan`. `found` may pass over whitespace and comments in pieces, or tell what
+-- No second answer meets the contract of a public function of `scan`. `found` may pass over whitespace and comments in pieces, or tell
+-- what
 -- stands behind them at once: of it there are no two answers that tell a token or a refusal.
 use mathlib.Core.Path.{_≡_, refl, sym, _∙_}
 use mathlib.Core.Bool.{Bool, true, false}
@@ -11,6 +12,9 @@ use Rattle.chars.proofs.Only.{one, OneAnswer}
 use Rattle.scan.specs.Found.{Finds, passes, tells}
 use Rattle.scan.specs.declared.Piece.{Piece}
 use Rattle.scan.proofs as fn
+
+pub past-blanks : OneAnswer fn.blank.past_blanks.Kinds.ps fn.blank.past_blanks.Kinds.r fn.blank.past_blanks.Reads.Post
+past-blanks κs given a b x y = one
 
 pub begins : OneAnswer fn.byte.begins.Kinds.ps fn.byte.begins.Kinds.r fn.byte.begins.Reads.Post
 begins κs given a b x y = one

@@ -1,8 +1,8 @@
 -- Sorts of bytes that the straight ways ask for, in the words of 004, section 3.1. Nothing here says more of the format than Sorts does.
-use Prim.Native.Nat.{ℕ, _+_, _<_, _≤_}
+use Prim.Native.Nat.{ℕ, suc, _+_, _<_, _≤_}
 use mathlib.Core.Path.{_≡_}
 use mathlib.Core.Bool.{Bool, true, not, _&&_, _||_}
-use mathlib.Core.List.{List}
+use mathlib.Core.List.{List, [], _∷_}
 use lib.Dec.{eqb}
 use lib.ListN.{length, getD}
 use Rattle.chars.specs.Choice.{if_then_else_, within}
@@ -29,6 +29,11 @@ beginsAt draft at =
     let begins = beginsOf (getD draft at 0) in
     if eqb begins 5 then if eqb (getD draft (at + 1) 0) 0x3B then 5 else 6
     else begins
+
+-- how many bytes of whitespace stand first
+unfoldable pub blanks : (bytes : List ℕ) → ℕ
+blanks [] = 0
+blanks (b ∷ bytes) = if white b then suc (blanks bytes) else 0
 
 -- What a byte is behind a token's first: 1 ends it, left out, 2 opens a string, 3 goes on with it; and 0 is illegal or not US-ASCII.
 unfoldable pub endsOf : (b : ℕ) → ℕ

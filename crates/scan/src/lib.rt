@@ -8,6 +8,7 @@ ghost use Rattle.scan.specs.Bytes.{beginsOf, beginsAt};
 ghost use Rattle.scan.specs.Found.{pieceOf, Finds};
 ghost use Rattle.scan.specs.Opens.{Known, Stands, Opens, Goes, Ended as EndedBy};
 
+pub mod blank;
 pub mod byte;
 mod comment;
 mod eight;

@@ -1,6 +1,5 @@
--- `reading::round::go_round` meets its contract: the byte tells whether whitespace is passed over, a token alone or a word is taken, or
--- what is
--- found there. Assumes nothing.
+-- `reading::round::go_round` meets its contract: the byte tells whether a token alone or a word is taken, or what is found there. Assumes
+-- nothing.
 use mathlib.Core.Path.{refl, sym, _∙_}
 use mathlib.Core.Logic.{⊎-elim}
 use native.Mathlib.Omega.{arith}
@@ -8,7 +7,7 @@ use borrow.Author.Tests.{eq-eqb, ne-eqb}
 use Rattle.scan.proofs.Starts.{own-number}
 use Rattle.entities.specs.Stepping.{Ruled, structural}
 use Rattle.reading.specs.Rounds.{turn}
-use Rattle.reading.proofs.Turning.{ends-on, steady, blank-on, alone-on, by-itself, again-on, at-three, with-text, word-taken}
+use Rattle.reading.proofs.Turning.{ends-on, steady, alone-on, by-itself, again-on, at-three, with-text, word-taken}
 use Rattle.reading.proofs.Turning.{word-on}
 use borrow.Author.Needs.{needs}
 use Rattle.reading.proofs.round.go_round.Statement.{statement}
@@ -29,39 +28,20 @@ shared-slice-read-b c = search needs
 begins-at-requires : tie.Need-begins-at-requires
 begins-at-requires c κs = search needs
 
-add-on : tie.Need-add-on
-add-on c = search needs
-
-on-requires : tie.Need-on-requires
-on-requires c κs = search needs
-
-returns-2 : tie.Need-returns-2
-unfolding turn
-returns-2 c =
-    let a = c .before .before .before .before .before .before .before .before .before .args in
-    rw (c .on .ensures)
-    (blank-on (a .draft .now) (a .list .now) (a .text .now) (a .groups .now) (a .s) (a .at) (omega (
-      arith,
-      c .before .before .before
-          .before .if1 .left,
-    )) (c .before .before .before .before .before .before .before .before .before .pre .1)
-    (own-number (a .draft .now) (a .at) 1 refl refl (sym (c .before .if2 .taken) ∙ c .before .before .begins-at .ensures)))
-
 structure-requires : tie.Need-structure-requires
 unfolding structural
 structure-requires c κs =
-    let a = c .before .before .before .before .before .before .before .before .before .before .before .before .args in (
-      eq-eqb _ 3 (own-number (a .draft .now) (a .at) 3 refl refl (sym (c .before .before .before .if3 .taken) ∙ c .before .before .before
-          .before .before .begins-at .ensures)),
-      ne-eqb (a .s .mode) 2 (c .before .before .if4 .taken),
+    let a = c .before .before .before .before .before .before .before .before .before .before .before .args in (
+      eq-eqb _ 3 (own-number (a .draft .now) (a .at) 3 refl refl (sym (c .before .before .before .if2 .taken) ∙ c .before .before .before
+          .before .begins-at .ensures)),
+      ne-eqb (a .s .mode) 2 (c .before .before .if3 .taken),
       omega (
         arith,
-        c .before .before .before .before .before .before .before .before .before .before .before .before .pre .0,
-        c .before
-            .before .before .before .before .before .before .if1 .left,
+        c .before .before .before .before .before .before .before .before .before .before .before .pre .0,
+        c .before .before .before .before .before .before .if1 .left,
       ),
       steady (a .s) (a .list .now) (a .text .now) (a .groups .now) (a .at) (c .before .before .before .before .before .before .before
-          .before .before .before .before .before .pre .1),
+          .before .before .before .before .pre .1),
     )
 
 add-behind : tie.Need-add-behind
@@ -76,40 +56,37 @@ same-length c = search needs
 same-length-2 : tie.Need-same-length-2
 same-length-2 c = search needs
 
-returns-3 : tie.Need-returns-3
-returns-3 c =
+returns-2 : tie.Need-returns-2
+returns-2 c =
     let a = c .before .before .before .before .before .before .before .before .before .before .before .before .before .before .before
-    .before .before .before .args in
+    .before .before .args in
     let after-structure = c .before .before .before .before .before .structure in
     let ready = c .before .before .before .before .before .before .before .before .before .before .before .before .before .before .before
-    .before .before .before .pre .1 in
+    .before .before .pre .1 in
     rw (c .behind .ensures)
     (alone-on (a .draft .now) (a .list .now) (a .text .now) (a .groups .now) (a .s) (a .at) (omega (
       arith,
-      c .before .before .before
-          .before .before .before .before .before .before .before .before .before .before .if1 .left,
+      c .before .before .before .before .before .before .before .before .before .before .before .before .if1 .left,
     )) ready (own-number (a .draft .now) (a .at)
-    3 refl refl (sym (c .before .before .before .before .before .before .before .before .before .if3 .taken) ∙ c .before .before .before
-    .before .before .before .before .before .before .before .before .begins-at .ensures)) _
+    3 refl refl (sym (c .before .before .before .before .before .before .before .before .before .if2 .taken) ∙ c .before .before .before
+    .before .before .before .before .before .before .before .begins-at .ensures)) _
     (after-structure .last .0) (after-structure .last .1 .0) (λ T is. after-structure .ensures T (a .text .now) is ready)
     (omega (arith, after-structure .kept)))
 
 over-requires-2 : tie.Need-over-requires-2
 over-requires-2 c κs = search needs
 
-returns-4 : tie.Need-returns-4
+returns-3 : tie.Need-returns-3
 unfolding turn
-returns-4 c =
-    let a = c .before .before .before .before .before .before .before .before .before .before .before .before .args in
+returns-3 c =
+    let a = c .before .before .before .before .before .before .before .before .before .before .before .args in
     rw (c .over2 .ensures)
     (again-on (a .draft .now) (a .list .now) (a .text .now) (a .groups .now) (a .s) (a .at) (omega (
       arith,
-      c .before .before .before
-          .before .before .before .before .if1 .left,
-    )) (c .before .before .before .before .before .before .before .before .before .before
-    .before .before .pre .1)
-    (own-number (a .draft .now) (a .at) 3 refl refl (sym (c .before .before .before .if3 .taken) ∙ c .before .before .before .before
-    .before .begins-at .ensures)) (c .before .before .if4 .left) (c .before .if5 .taken))
+      c .before .before .before .before .before .before .if1 .left,
+    )) (c .before .before .before .before .before .before .before .before .before .before .before .pre .1)
+    (own-number (a .draft .now) (a .at) 3 refl refl (sym (c .before .before .before .if2 .taken) ∙ c .before .before .before .before
+    .begins-at .ensures)) (c .before .before .if3 .left) (c .before .if4 .taken))
 
 metacommand-ends-requires : tie.Need-metacommand-ends-requires
 metacommand-ends-requires c κs = search needs
@@ -126,32 +103,30 @@ same-length-3 c = search needs
 same-length-4 : tie.Need-same-length-4
 same-length-4 c = search needs
 
-returns-5 : tie.Need-returns-5
+returns-4 : tie.Need-returns-4
 unfolding Ruled
-returns-5 c =
+returns-4 c =
     let a = c .before .before .before .before .before .before .before .before .before .before .before .before .before .before .before
-    .before .before .before .args in
+    .before .before .args in
     let after-ends = c .before .before .before .metacommand-ends in
     let ready = c .before .before .before .before .before .before .before .before .before .before .before .before .before .before .before
-    .before .before .before .pre .1 in
+    .before .before .pre .1 in
     let three = (own-number (a .draft .now) (a .at) 3 refl refl (sym (c .before .before .before .before .before .before .before .before
-    .before .if3 .taken) ∙ c .before .before .before .before .before .before .before .before .before .before .before .begins-at .ensures))
+    .before .if2 .taken) ∙ c .before .before .before .before .before .before .before .before .before .before .begins-at .ensures))
     in
-    let two = c .before .before .before .before .before .before .before .before .if4 .left in
+    let two = c .before .before .before .before .before .before .before .before .if3 .left in
     rw (c .behind2 .ensures)
     (alone-on (a .draft .now) (a .list .now) (a .text .now) (a .groups .now) (a .s) (a .at) (omega (
       arith,
-      c .before .before .before
-          .before .before .before .before .before .before .before .before .before .before .if1 .left,
+      c .before .before .before .before .before .before .before .before .before .before .before .before .if1 .left,
     )) ready three _ (after-ends .last .0) (a
     .groups .now)
     (λ T is. by-itself (a .draft .now) (a .list .now) (a .text .now) (a .groups .now) (a .s) (a .at) (omega (
       arith,
-      c .before .before
-          .before .before .before .before .before .before .before .before .before .before .before .if1 .left,
+      c .before .before .before .before .before .before .before .before .before .before .before .before .if1 .left,
     )) ready three two T _ (after-ends
     .last .0) (a .groups .now)
-    (after-ends .ensures T (a .text .now) (is ∙ c .before .before .before .before .before .before .if6 .taken) ready))
+    (after-ends .ensures T (a .text .now) (is ∙ c .before .before .before .before .before .before .if5 .taken) ready))
     (omega (arith, after-ends .kept)))
 
 worded-requires : tie.Need-worded-requires
@@ -160,25 +135,25 @@ worded-requires c κs = search needs
 sub-take-word : tie.Need-sub-take-word
 sub-take-word c =
     let told = c .before .before .before .before .worded in
-    let e = told .ensures (λ z. omega (arith, c .before .before .before .if7 .taken, z)) in
+    let e = told .ensures (λ z. omega (arith, c .before .before .before .if6 .taken, z)) in
     omega (arith, e .on)
 
 take-word-requires : tie.Need-take-word-requires
 take-word-requires c κs =
-    let a = c .before .before .before .before .before .before .before .before .before .before .before .before .before .before .args in
-    let p = c .before .before .before .before .before .before .before .before .before .before .before .before .before .before .pre in
+    let a = c .before .before .before .before .before .before .before .before .before .before .before .before .before .args in
+    let p = c .before .before .before .before .before .before .before .before .before .before .before .before .before .pre in
     let told = c .before .before .before .before .worded in
-    let e = told .ensures (λ z. omega (arith, c .before .before .before .if7 .taken, z)) in
-    let one = c .before .before .before .if7 .taken in
-    let there = c .before .before .before .before .before .before .before .before .before .if1 .left in
+    let e = told .ensures (λ z. omega (arith, c .before .before .before .if6 .taken, z)) in
+    let one = c .before .before .before .if6 .taken in
+    let there = c .before .before .before .before .before .before .before .before .if1 .left in
     let t = word-taken (a .draft .now) (a .list .now) (a .text .now) (a .groups .now) (a .s) (a .at) (omega (arith, there)) (p .1) (told
     .result .at) (e .simple one) in (
       refl,
       with-text _ (a .s .mode)
           (λ three.
           ⊎-elim (λ k. (k .1 .left, k .2 .left, k .3 .left))
-          (λ k. absurd (k .left (c .before .before .before .before .before .before .before .begins-at .ensures ∙ at-three (a .draft .now)
-          (a .at) three))) (c .before .before .before .before .before .if3 .came)),
+          (λ k. absurd (k .left (c .before .before .before .before .before .before .begins-at .ensures ∙ at-three (a .draft .now)
+          (a .at) three))) (c .before .before .before .before .before .if2 .came)),
       omega (arith, e .some one),
       t .0,
       omega (arith, p .0, there),
@@ -198,39 +173,39 @@ same-length-6 c = search needs
 same-length-7 : tie.Need-same-length-7
 same-length-7 c = search needs
 
-returns-6 : tie.Need-returns-6
-returns-6 c =
+returns-5 : tie.Need-returns-5
+returns-5 c =
     let a = c .before .before .before .before .before .before .before .before .before .before .before .before .before .before .before
-    .before .before .before .before .before .before .before .args in
+    .before .before .before .before .before .before .args in
     let p = c .before .before .before .before .before .before .before .before .before .before .before .before .before .before .before
-    .before .before .before .before .before .before .before .pre in
+    .before .before .before .before .before .before .pre in
     let told = c .before .before .before .before .before .before .before .before .before .before .before .before .worded in
     let e = told .ensures (λ z. omega (
       arith,
       c .before .before .before .before .before .before .before .before .before .before .before
-          .if7 .taken,
+          .if6 .taken,
       z,
     )) in
     let after = c .before .before .before .before .before .before .before .take-word in
     rw (c .behind3 .ensures)
     (word-on (a .draft .now) (a .list .now) (a .text .now) (a .groups .now) (a .s) (a .at) (omega (
       arith,
-      c .before .before .before
-          .before .before .before .before .before .before .before .before .before .before .before .before .before .before .if1 .left,
+      c .before .before .before .before .before .before .before .before .before .before .before .before .before .before .before .before
+          .if1 .left,
     )) (p .1)
-    (told .result .at) (e .simple (c .before .before .before .before .before .before .before .before .before .before .before .if7 .taken))
+    (told .result .at) (e .simple (c .before .before .before .before .before .before .before .before .before .before .before .if6 .taken))
     _
     (after .last .1 .0) (after .last .1 .1 .0) (after .last .1 .1 .1 .0) (after .ensures) (omega (arith, after .kept))
     (omega (arith, after .kept)))
 
 piece-requires : tie.Need-piece-requires
 piece-requires c κs =
-    let p = c .before .before .before .before .before .before .before .before .before .before .before .before .before .before .pre in (
+    let p = c .before .before .before .before .before .before .before .before .before .before .before .before .before .pre in (
       p .0,
       p .1,
-      omega (arith, c .before .before .before .before .before .before .before .before .before .if1 .left),
-      c .before .before .before .before .before .before .before .begins-at .ensures,
-      λ e. ⊎-elim (λ k. (k .1 .left, k .2 .left, k .3 .left)) (λ k. absurd (k .left e)) (c .before .before .before .before .before .if3
+      omega (arith, c .before .before .before .before .before .before .before .before .if1 .left),
+      c .before .before .before .before .before .before .begins-at .ensures,
+      λ e. ⊎-elim (λ k. (k .1 .left, k .2 .left, k .3 .left)) (λ k. absurd (k .left e)) (c .before .before .before .before .before .if2
           .came),
       c .before .before .before .before .worded .ensures,
     )
@@ -244,8 +219,8 @@ same-length-9 c = search needs
 same-length-10 : tie.Need-same-length-10
 same-length-10 c = search needs
 
-returns-7 : tie.Need-returns-7
-returns-7 c = search needs
+returns-6 : tie.Need-returns-6
+returns-6 c = search needs
 
 pub go-round-spec : {M : Type 1} → statement M
 go-round-spec =
@@ -255,23 +230,20 @@ go-round-spec =
     returns
     shared-slice-read-b
     begins-at-requires
-    add-on
-    on-requires
-    returns-2
     structure-requires
     add-behind
     behind-requires
     same-length
     same-length-2
-    returns-3
+    returns-2
     over-requires-2
-    returns-4
+    returns-3
     metacommand-ends-requires
     add-behind-2
     behind-requires-2
     same-length-3
     same-length-4
-    returns-5
+    returns-4
     worded-requires
     sub-take-word
     take-word-requires
@@ -279,9 +251,9 @@ go-round-spec =
     same-length-5
     same-length-6
     same-length-7
-    returns-6
+    returns-5
     piece-requires
     same-length-8
     same-length-9
     same-length-10
-    returns-7)
+    returns-6)

@@ -11,7 +11,7 @@ use borrow.Author.Tests.{le-leb}
 use Rattle.chars.specs.Choice.{within}
 use Rattle.tokens.specs.Sorts.{visible, white, atomic, inclusive}
 use Rattle.scan.specs.Bytes.{beginsOf}
-use Rattle.scan.proofs.Bytes.{never, told-by-its-bit}
+use Rattle.scan.proofs.Bytes.{never, agree}
 use Rattle.scan.proofs.byte.begins_word.Statement.{statement}
 use Rattle.scan.proofs.byte.begins_word.Tie as tie
 
@@ -19,7 +19,8 @@ returns : tie.Need-returns
 unfolding beginsOf visible white atomic inclusive
 returns c =
     let b = c .before .args .b in
-    never (λ k. eqb (beginsOf k) 6) (within 0 0x20) refl b (search needs) (rw (le-leb 0 b (omega arith), le-leb b 0x20 (omega arith)) refl)
+    never (λ k. eqb (beginsOf k) 6) (within 0 0x20) refl b (search needs) (rw (le-leb 0 b (omega arith), le-leb b 0x20 (omega arith))
+    refl)
 
 returns-2 : tie.Need-returns-2
 unfolding beginsOf visible white atomic inclusive
@@ -40,10 +41,23 @@ returns-3 c =
     let b = c .before .before .before .before .args .b in
     let low = c .before .before .before .if1 .left in
     let high = c .before .before .if2 .left in
-    let told : ℕ → Bool = λ bits. eqb (bitAnd (bits / 2 ^ bitAnd b 0x3F) 1) 0 in
+    let told : ℕ → ℕ → Bool = λ bits k. eqb (bitAnd (bits / 2 ^ bitAnd k 0x3F) 1) 0 in
+    let word : ℕ → Bool = λ k. eqb (beginsOf k) 6 in
     ⊎-elim
-    (λ o. ap told (o .1) ∙ told-by-its-bit 0x3800000028000000 0x40 0x7E refl b (search needs) (o .0 .taken) (omega arith))
-    (λ o. ap told (o .1) ∙ told-by-its-bit 0x800132c00000000 0x21 0x3F refl b (search needs) (omega arith) (omega arith))
+    (λ o.
+    ap (λ bits. told bits b) (o .1)
+    ∙ agree (told 0x3800000028000000) word (within 0x40 0x7E) refl b (search needs) (rw (
+      le-leb 0x40 b (o .0 .taken),
+      le-leb b 0x7E
+          (omega arith),
+    ) refl))
+    (λ o.
+    ap (λ bits. told bits b) (o .1)
+    ∙ agree (told 0x800132c00000000) word (within 0x21 0x3F) refl b (search needs) (rw (
+      le-leb 0x21 b (omega arith),
+      le-leb b 0x3F (omega
+          arith),
+    ) refl))
     (c .before .if3 .came)
 
 pub begins-word-spec : {M : Type 1} → statement M
