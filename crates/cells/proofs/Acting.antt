@@ -12,7 +12,8 @@ use Rattle.entities.specs.Judging.{kindOf}
 use Rattle.table.specs.Table.{Operation, find}
 use Rattle.rules.specs.Cells.{State, goes, push, hide, show, define, fetch, assign, lookup, operate, act}
 use Rattle.rules.specs.Kinds.{Checked, of, count, kinds}
-use Rattle.cells.specs.Kept.{kindIn, countIn, textIn, entityAt}
+use Rattle.sight.specs.Row.{kindIn, countIn, textIn}
+use Rattle.cells.specs.Kept.{entityAt}
 
 module _ (L : Limits) (os : List Operation) (step : ℕ) (s : State Checked) (list text : List ℕ) (i : ℕ) where
   pub at-begin : kindIn list i ≡ 6 → act L kinds os step s (entityAt list text i) ≡ hide L kinds s

@@ -22,7 +22,7 @@ use Rattle.rules.proofs.ByKind.{if-goes, at-begin-group, at-end-group, begin-hi
 use Rattle.rules.proofs.Ending.{went-on}
 use Rattle.rules.proofs.States.{end-hidden, hidden-kept}
 use Rattle.cells.specs.Kept.{entityAt, entitiesFrom, grouped, Held, Here}
-use Rattle.cells.specs.Arrays.{hiddenOf}
+use Rattle.sight.specs.Arrays.{hiddenOf}
 
 -- the kind of a kind's number is that kind
 pub kind-of-number : (k : Kind) → kindOf (kindNumber k) ≡ k

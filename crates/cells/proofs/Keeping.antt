@@ -16,8 +16,9 @@ use Rattle.entities.specs.Entity.{Entity, kindNumber, size, texts, rows}
 use Rattle.entities.proofs.Listing.{rows-length}
 use Rattle.reading.specs.WellMade.{made, well-made}
 use Rattle.rules.proofs.Ending.{placeAt}
-use Rattle.cells.specs.Kept.{placeIn, textAtIn, textLenIn, textIn, entityAt, entitiesFrom, grouped, Held}
 use Rattle.cells.proofs.Going.{kind-of-number}
+use Rattle.sight.specs.Row.{placeIn, textAtIn, textLenIn, textIn}
+use Rattle.cells.specs.Kept.{entityAt, entitiesFrom, grouped, Held}
 
 -- what stands behind so many numbers
 behind : (front back : List ℕ) (i k : ℕ) → length front ≡ i * 6 → getD (front ++ back) (i * 6 + k) 0 ≡ getD back k 0

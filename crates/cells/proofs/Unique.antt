@@ -2,7 +2,7 @@
 use mathlib.Core.Path.{_≡_, refl, sym, _∙_, ap}
 use Prim.Native.Nat.{ℕ}
 use Rattle.chars.proofs.Only.{one, OneAnswer}
-use Rattle.cells.specs.Arrays.{endedOf}
+use Rattle.cells.specs.Kept.{endedOf}
 use Rattle.cells.specs.declared.Outcome.{Outcome}
 use Rattle.cells.proofs as fn
 

@@ -4,7 +4,7 @@ use mathlib.Core.Path.{_≡_}
 use mathlib.Core.Bool.{Bool, true, _&&_}
 use mathlib.Core.List.{List, [], _∷_}
 use lib.Dec.{ltb, eqb}
-use lib.ListN.{length, getD, take, drop}
+use lib.ListN.{length, take, drop}
 use Rattle.chars.specs.Choice.{if_then_else_}
 use Rattle.chars.specs.Limits.{Limits, limits}
 use Rattle.entities.specs.Entity.{Entity, kindNumber}
@@ -12,33 +12,8 @@ use Rattle.entities.specs.Judging.{kindOf}
 use Rattle.table.specs.Table.{Operation}
 use Rattle.rules.specs.Cells.{Ended}
 use Rattle.rules.specs.Kinds.{check}
-
--- a number of an entity's row
-abbrev numberIn : (list : List ℕ) → (entity which : ℕ) → ℕ
-numberIn list i k = getD list (i * 6 + k) 0
-
--- What stands where in a row.
-abbrev pub kindIn : (list : List ℕ) → (entity : ℕ) → ℕ
-kindIn list i = getD list (i * 6) 0
-
-abbrev pub placeIn : (list : List ℕ) → (entity : ℕ) → ℕ
-placeIn list i = numberIn list i 1
-
-abbrev pub textAtIn : (list : List ℕ) → (entity : ℕ) → ℕ
-textAtIn list i = numberIn list i 2
-
-abbrev pub textLenIn : (list : List ℕ) → (entity : ℕ) → ℕ
-textLenIn list i = numberIn list i 3
-
-abbrev pub dataLenIn : (list : List ℕ) → (entity : ℕ) → ℕ
-dataLenIn list i = numberIn list i 4
-
-abbrev pub countIn : (list : List ℕ) → (entity : ℕ) → ℕ
-countIn list i = numberIn list i 5
-
--- an entity's text
-unfoldable pub textIn : (list text : List ℕ) → (entity : ℕ) → List ℕ
-textIn list text i = take (textLenIn list i) (drop (textAtIn list i) text)
+use Rattle.sight.specs.Row.{kindIn, placeIn, textAtIn, textLenIn, dataLenIn, countIn, textIn}
+use Rattle.cells.specs.declared.Outcome.{Outcome}
 
 -- the entity of a row, counted from 0; its data stands behind its text
 unfoldable pub entityAt : (list text : List ℕ) → (entity : ℕ) → Entity
@@ -59,6 +34,10 @@ entitiesFrom list text i (suc n) = entityAt list text i ∷ entitiesFrom list te
 -- the check of the first `n` entities of a kept list
 unfoldable pub checkKept : Limits → List Operation → (list text : List ℕ) → (n : ℕ) → Ended
 checkKept L os list text n = check L os (entitiesFrom list text 0 n)
+
+-- how a check ended, in the words of the definition
+unfoldable pub endedOf : Outcome → Ended
+endedOf o = record { number = o .number; place = o .place; steps = o .steps; cells = o .cells }
 
 -- with so many groups open, no group ends that is not open, and there are never over `most`
 unfoldable pub grouped : (most depth : ℕ) → List Entity → Bool

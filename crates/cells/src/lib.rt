@@ -5,44 +5,20 @@ ghost use Rattle.chars.specs.Limits.{limits};
 ghost use Rattle.table.specs.Entered.{sound, rowCount, operationsOf, Entered};
 ghost use Rattle.rules.specs.Cells.{act as actOf};
 ghost use Rattle.rules.specs.Kinds.{kinds};
-ghost use Rattle.cells.specs.Kept.{Held, Here, entityAt, checkKept};
-ghost use Rattle.cells.specs.Arrays.{Standing, Hiding, Agrees, stateOf, endedOf};
-
-mod kept;
-mod naming;
-mod operation;
-mod stack;
-
-use kept::count_of;
-use kept::kind_of;
-use kept::place_of;
+ghost use Rattle.sight.specs.Arrays.{Standing, Hiding, Agrees, stateOf};
+ghost use Rattle.cells.specs.Kept.{Held, Here, entityAt, checkKept, endedOf};
 use naming::fix;
 use naming::get;
 use naming::put;
-use operation::operate;
-use stack::hide;
-use stack::push;
-use stack::show;
-
-// How many cells are hidden, how many in sight, how many groups are open, and how many names defined.
-pub struct Counts {
-    pub base: usize,
-    pub seen: usize,
-    pub depth: usize,
-    pub names: usize,
-}
-
-// What an entity does: it leads on, or a rule stops it.
-pub enum Move {
-    Goes(Counts),
-    Stops(u32),
-}
-
-// What taking items does: it leaves so many cells in sight, or a rule refuses it.
-pub enum Left {
-    Leaves(usize),
-    Refuses(u32),
-}
+use operations::operate;
+use sight::Counts;
+use sight::Move;
+use sight::hide;
+use sight::push;
+use sight::row::count_of;
+use sight::row::kind_of;
+use sight::row::place_of;
+use sight::show;
 
 // How a check ended: 0 or the rule that stopped it, the place of the entity, the entities handled, and the cells that remain.
 pub struct Outcome {

@@ -20,7 +20,7 @@ use Rattle.reading.specs.declared.Answer.{Answer}
 use Rattle.reading.proofs.Numbers.{read-number, read-long}
 use Rattle.table.specs.Table.{Operation, operations}
 use Rattle.rules.specs.Kinds.{check as checkOf}
-use Rattle.cells.specs.Kept.{placeIn}
+use Rattle.sight.specs.Row.{placeIn}
 use Rattle.cells.proofs.Keeping.{place-kept}
 use Rattle.rules.proofs.Ending.{check-number, check-passes, check-stops}
 use Rattle.rules.proofs.First.{by-option}

@@ -2,11 +2,11 @@
 use mathlib.Core.Path.{_≡_, sym, _∙_, ap}
 use Prim.Native.Nat.{_+_, _<_, _≤_}
 use native.Mathlib.Omega.{arith}
-use Rattle.cells.specs.Arrays.{cellOf, stateOf, meant, ready}
-use Rattle.cells.specs.Kept.{kindIn, countIn}
+use Rattle.sight.specs.Arrays.{cellOf, stateOf, meant, ready}
+use Rattle.sight.specs.Row.{kindIn, countIn}
 use Rattle.cells.proofs.Acting.{at-begin, at-end, at-array, at-number, at-string, at-define, at-get, at-put}
 use Rattle.cells.proofs.Acting.{at-operation, at-other}
-use Rattle.cells.proofs.Sight.{counted-cell}
+use Rattle.sight.proofs.Sight.{counted-cell}
 use borrow.Author.Needs.{needs}
 use Rattle.cells.proofs.act.Statement.{statement}
 use Rattle.cells.proofs.act.Tie as tie

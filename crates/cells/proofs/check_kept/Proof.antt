@@ -10,10 +10,11 @@ use Rattle.table.specs.Entered.{operationsOf}
 use Rattle.rules.specs.Cells.{through, empty}
 use Rattle.rules.specs.Kinds.{kinds, check}
 use Rattle.cells.specs.Kept.{entityAt, entitiesFrom, grouped, checkKept}
-use Rattle.cells.specs.Arrays.{sightOf, hiddenOf, namesOf, stateOf, stacked, apart, Standing, Hiding, meant, ready, endedOf}
+use Rattle.sight.specs.Arrays.{sightOf, hiddenOf, namesOf, stateOf, stacked, apart, Standing, Hiding, meant, ready}
+use Rattle.cells.specs.Kept.{endedOf}
 use Rattle.cells.proofs.Going.{entities-on, here, counted-on, ended, behind, so-deep}
 use Rattle.rules.proofs.Ending.{stopped-at}
-use Rattle.cells.proofs.Sight.{so-many-cells}
+use Rattle.sight.proofs.Sight.{so-many-cells}
 use borrow.Author.Needs.{needs}
 use Rattle.cells.proofs.check_kept.Statement.{statement}
 use Rattle.cells.proofs.check_kept.Tie as tie

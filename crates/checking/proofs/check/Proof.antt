@@ -7,7 +7,7 @@ use Rattle.names.proofs.Entering.{no-entries}
 use Rattle.reading.specs.Reading.{readWith, roomOf, reading}
 use Rattle.table.specs.Entered.{sound, operationsOf}
 use Rattle.table.proofs.Sound.{operations-sound, operations-unsound}
-use Rattle.cells.specs.Arrays.{endedOf}
+use Rattle.cells.specs.Kept.{endedOf}
 use Rattle.checking.specs.Checking.{unsound, checked}
 use Rattle.checking.proofs.Stages.{at-table, at-reading, at-check, told, held-reading, kept-reading, number-read}
 use borrow.Author.Needs.{needs}
