@@ -15,7 +15,7 @@ use Rattle.chars.proofs.Cases.{either}
 use Rattle.chars.proofs.Extent.{encoded-one}
 use Rattle.tokens.proofs.Classes.{low}
 use Rattle.tokens.proofs.Skipping.{alone-at}
-use Rattle.tokens.proofs.Copying.{clean-zero, clean-next}
+use Rattle.tokens.proofs.Clean.{clean-zero, clean-next}
 use Rattle.entities.specs.Entity.{Entity, bare, size, sizes, texts}
 use Rattle.entities.specs.Judging.{bares, cut, written, textWritten, cutFrom, cutLength}
 use Rattle.entities.specs.Stepping.{Contents}

@@ -9,7 +9,7 @@ use lib.Seq.{take-all, drop-drop, drop-length}
 use borrow.Author.Tests.{le-ltb}
 use borrow.Rule.Slice.PartMut.{putMid, postOf, post-is}
 use Rattle.chars.specs.Stream.{streamAt, clean}
-use Rattle.tokens.specs.Copy.{copiedInto}
+use Rattle.copying.specs.Copy.{copiedInto}
 
 -- what the copier leaves of a part, where there are as many clean bytes as it is asked for
 pub copied-front :

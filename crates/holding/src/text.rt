@@ -7,7 +7,7 @@ ghost use Rattle.chars.specs.Stream.{streamAt, clean};
 ghost use Rattle.holding.specs.Text.{unchanged};
 use crate::copy::long;
 use crate::copy::short;
-use tokens::copier::copy;
+use copying::copy;
 
 // Bytes of the draft as they are behind the first `used` bytes of the text buffer, whose unused rest is lent on.
 pub fn as_it_stands(draft: &[u8], from: usize, n: usize, text: &mut [u8], used: usize)

@@ -18,7 +18,7 @@ use Rattle.chars.proofs.Cases.{either}
 use Rattle.chars.proofs.RoundTrip.{well-formed}
 use Rattle.tokens.specs.Tokens.{Whole, Tokens, tokens, between}
 use Rattle.tokens.proofs.Skipping.{by-character, reaches}
-use Rattle.tokens.proofs.Copying.{clean-zero}
+use Rattle.tokens.proofs.Clean.{clean-zero}
 use Rattle.tokens.proofs.OneByOne.{Sound, OneByOne, more, final, none, one-by-one}
 use Rattle.entities.specs.Making.{fresh, Room}
 use Rattle.entities.proofs.Cutting.{first-byte}

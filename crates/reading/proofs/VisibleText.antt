@@ -22,7 +22,7 @@ use Rattle.tokens.specs.Tokens.{tokens}
 use Rattle.tokens.proofs.Table.{holds, if-then, so}
 use Rattle.tokens.proofs.Classes.{foreign}
 use Rattle.tokens.proofs.Skipping.{by-character, reaches}
-use Rattle.tokens.proofs.Copying.{clean-zero, clean-next}
+use Rattle.tokens.proofs.Clean.{clean-zero, clean-next}
 use Rattle.entities.specs.Making.{fresh, Room}
 use Rattle.reading.specs.Reading.{refusal, textOf, readWith}
 use Rattle.reading.proofs.TextOf.{Every, nothing, Clear, all-clear}

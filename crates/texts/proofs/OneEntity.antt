@@ -11,7 +11,7 @@ use borrow.Author.Tests.{lt-ltb, le-ltb}
 use Rattle.chars.specs.Stream.{streamAt, clean}
 use Rattle.chars.specs.Choice.{if_then_else_, within}
 use Rattle.chars.proofs.Cases.{either}
-use Rattle.tokens.proofs.Copying.{clean-zero}
+use Rattle.tokens.proofs.Clean.{clean-zero}
 use Rattle.entities.specs.Entity.{Entity, size, sizes}
 use Rattle.entities.specs.Making.{Handled, fitted, makes, shortage}
 use Rattle.entities.specs.Judging.{one, bares, cut, cutOf, cutLength, cutFrom, kindOf, shortOf, filled, written, textWritten}

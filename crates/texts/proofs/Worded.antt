@@ -13,7 +13,7 @@ use Rattle.chars.specs.Choice.{if_then_else_, within, among, ascii}
 use Rattle.chars.specs.Limits.{limits}
 use Rattle.chars.proofs.Cases.{either}
 use Rattle.chars.specs.Stream.{streamAt, clean}
-use Rattle.tokens.proofs.Copying.{clean-zero}
+use Rattle.tokens.proofs.Clean.{clean-zero}
 use Rattle.tokens.specs.Sorts.{visible, white, atomic, inclusive}
 use Rattle.tokens.specs.Tokens.{quoted, curly}
 use Rattle.scan.specs.Bytes.{beginsOf}

@@ -9,8 +9,7 @@ pub mod Standing
 pub mod Strings
 pub mod Words
 pub mod Starts
-pub mod Copying
-pub mod Pairs
+pub mod Clean
 pub mod OneByOne
 pub mod Lengths
 pub mod Refused

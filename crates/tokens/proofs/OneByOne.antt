@@ -25,7 +25,7 @@ use Rattle.chars.proofs.Extent.{encoded-one}
 use Rattle.tokens.proofs.Passing.{class-at}
 use Rattle.tokens.proofs.Classes.{foreign}
 use Rattle.tokens.proofs.Skipping.{by-character, reaches, own-byte, own-class, cr-line}
-use Rattle.tokens.proofs.Copying.{clean-zero}
+use Rattle.tokens.proofs.Clean.{clean-zero}
 use Rattle.tokens.proofs.Spans.{Spans, empty, longer, spans-on, spans-length, spans-raw}
 
 -- a string is no simple token

@@ -25,7 +25,7 @@ use Rattle.tokens.specs.Tokens.{quoted, curly, Whole, Opened, State, bet
 use Rattle.tokens.specs.Tokens.{Outcome, goes, gives, ends, refuses, simply, closed, opens, begins, continues, inside, down}
 use Rattle.tokens.specs.Tokens.{nested, step}
 use Rattle.tokens.proofs.Classes.{foreign}
-use Rattle.tokens.proofs.Copying.{clean-zero, clean-next}
+use Rattle.tokens.proofs.Clean.{clean-zero, clean-next}
 use Rattle.tokens.proofs.Skipping.{reaches}
 
 -- a character that is legal where a token is has one clean byte

@@ -1,6 +1,6 @@
 -- No second answer meets the contract of a public call of `tokens`.
 use mathlib.Core.Path.{_≡_, refl, sym, _∙_, ap}
-use mathlib.Core.List.{List, [], _∷_}
+use mathlib.Core.List.{List}
 use Prim.Native.Nat.{ℕ, zero, suc, _^_, _/_, _%_, _<_, _≤_}
 use native.Mathlib.Nat.{pow-suc}
 use native.Mathlib.Omega.{arith}
@@ -15,7 +15,7 @@ use Rattle.chars.specs.Stream.{Stream, next, stop, streamAt}
 use Rattle.chars.specs.declared.Character.{Character}
 use Rattle.chars.specs.declared.Character.the-variants.{Clean, Refused, End}
 use Rattle.chars.proofs.Cases.{by-bound}
-use Rattle.chars.proofs.Only.{one, with-buffer, OneAnswer, OneOutcome}
+use Rattle.chars.proofs.Only.{one, OneAnswer}
 use Rattle.chars.proofs.Refusals.{character-refused}
 use Rattle.chars.proofs.Streams.{at-end, at-character, at-refusal, ended}
 use Rattle.tokens.specs.Runs.{bytesOf}
@@ -23,9 +23,6 @@ use Rattle.tokens.proofs as fn
 
 pub token-at : OneAnswer fn.token_at.Kinds.ps fn.token_at.Kinds.r fn.token_at.Reads.Post
 token-at κs given a b x y = one
-
-pub copy : OneOutcome fn.copier.copy.Kinds.ps fn.copier.copy.Kinds.r fn.copier.copy.Reads.Post (λ κs x. x .1 .1 .1 .0 .now ∷ [])
-copy κs given a b x y = with-buffer
 
 -- where a stream's first character stands, or its end
 unfoldable standsAt : Stream → ℕ

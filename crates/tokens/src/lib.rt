@@ -10,7 +10,6 @@ ghost use Rattle.tokens.specs.Tokens.{shown, closed as closedBy, opens, 
 ghost use Rattle.tokens.specs.Runs.{classOf, pastBlanks, pastComment, pastAll, openedAs, refusalOf};
 
 mod byte;
-pub mod copier;
 pub mod number;
 mod space;
 mod string_data;

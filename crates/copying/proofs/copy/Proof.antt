@@ -1,4 +1,4 @@
--- `tokens::copier::copy` meets its contract. The invariant: so many clean bytes stand at the front, and behind them the part is as it was
+-- `copying::copy` meets its contract. The invariant: so many clean bytes stand at the front, and behind them the part is as it was
 -- lent. A turn copies the bytes that stay as they are, and then one character. Assumes nothing.
 use mathlib.Core.Path.{_≡_, sym, _∙_}
 use mathlib.Core.Logic.{⊎-elim}
@@ -8,18 +8,18 @@ use mir.Val.{Fits}
 use mir.Syntax.{w64}
 use borrow.Author.Needs.{needs}
 use Rattle.chars.proofs.Extent.{encoded-size}
-use Rattle.tokens.proofs.Copying.{Copying, begun, advance-kept, advance-coded, finished, too-small}
-use Rattle.tokens.proofs.Copying.{clean-zero, clean-full, clean-none}
-use Rattle.tokens.proofs.copier.copy.Statement.{statement}
-use Rattle.tokens.proofs.copier.copy.Tie as tie
-use Rattle.tokens.proofs.copier.copy.Reads as reads
-use Rattle.tokens.proofs.copier.copy.Lts as lts
+use Rattle.copying.proofs.Copying.{Copying, begun, advance-kept, advance-coded, finished, too-small}
+use Rattle.tokens.proofs.Clean.{clean-zero, clean-full, clean-none}
+use Rattle.copying.proofs.copy.Statement.{statement}
+use Rattle.copying.proofs.copy.Tie as tie
+use Rattle.copying.proofs.copy.Reads as reads
+use Rattle.copying.proofs.copy.Lts as lts
 use Rattle.chars.proofs.encode.Reads as encode-reads
 use Rattle.chars.proofs.encoded_length.Reads as encoded-length-reads
-use Rattle.tokens.proofs.copier.ahead.Reads as ahead-reads
-use Rattle.tokens.proofs.copier.kept.Reads as kept-reads
-use Rattle.tokens.proofs.copier.next.Reads as next-reads
-use Rattle.tokens.proofs.copier.put.Reads as put-reads
+use Rattle.copying.proofs.ahead.Reads as ahead-reads
+use Rattle.copying.proofs.kept.Reads as kept-reads
+use Rattle.copying.proofs.next.Reads as next-reads
+use Rattle.copying.proofs.put.Reads as put-reads
 
 abbrev Inv-loop : tie.InvT-loop
 Inv-loop draft from n out₀ i₀ k₀ out i k = Copying draft from n out₀ out i k × Fits w64 i

@@ -7,8 +7,8 @@ ghost use lib.Seq.{paste};
 ghost use Rattle.chars.specs.Character.{sequence, characterAt};
 ghost use Rattle.chars.specs.declared.Character.the-variants.{Clean};
 ghost use Rattle.chars.specs.declared.Sequence.the-variants.{Whole};
 ghost use Rattle.tokens.specs.Runs.{classOf};
-ghost use Rattle.tokens.specs.Copy.{copied, copiedInto};
+ghost use Rattle.copying.specs.Copy.{copied, copiedInto};
 use chars::Character;
 
 // What the copier did.

@@ -1,11 +1,11 @@
--- `tokens::copier::line_end` meets its contract: CR before LF is one LF, and an answer `false` says nothing. Assumes nothing.
+-- `copying::line_end` meets its contract: CR before LF is one LF, and an answer `false` says nothing. Assumes nothing.
 use mathlib.Core.Bool.{false≢true}
 use native.Mathlib.Omega.{arith}
 use borrow.Author.Needs.{needs}
 use borrow.Author.Tests.{eqb-true}
-use Rattle.tokens.proofs.Pairs.{feed}
-use Rattle.tokens.proofs.copier.line_end.Statement.{statement}
-use Rattle.tokens.proofs.copier.line_end.Tie as tie
+use Rattle.copying.proofs.Pairs.{feed}
+use Rattle.copying.proofs.line_end.Statement.{statement}
+use Rattle.copying.proofs.line_end.Tie as tie
 
 returns : tie.Need-returns
 returns c = λ e. absurd (false≢true e)

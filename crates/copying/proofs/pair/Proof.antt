@@ -1,11 +1,11 @@
--- `tokens::copier::pair` meets its contract: a high surrogate and right behind it a low one are one character. Assumes nothing.
+-- `copying::pair` meets its contract: a high surrogate and right behind it a low one are one character. Assumes nothing.
 use Prim.Native.Nat.{_+_, _<_, _≤_}
 use native.Mathlib.Omega.{arith}
 use lib.ListN.{length}
 use borrow.Author.Needs.{needs}
-use Rattle.tokens.proofs.Pairs.{two-surrogates}
-use Rattle.tokens.proofs.copier.pair.Statement.{statement}
-use Rattle.tokens.proofs.copier.pair.Tie as tie
+use Rattle.copying.proofs.Pairs.{two-surrogates}
+use Rattle.copying.proofs.pair.Statement.{statement}
+use Rattle.copying.proofs.pair.Tie as tie
 
 returns : tie.Need-returns
 returns c = λ h. absurd (omega arith)

@@ -1,11 +1,11 @@
--- `tokens::copier::next` meets its contract: each function that it asks tells the character by its own contract. Assumes nothing.
+-- `copying::next` meets its contract: each function that it asks tells the character by its own contract. Assumes nothing.
 use mathlib.Core.Path.{sym}
 use Prim.Native.Nat.{_+_}
 use native.Mathlib.Omega.{arith}
 use borrow.Author.Needs.{needs}
 use Rattle.tokens.proofs.Skipping.{reaches}
-use Rattle.tokens.proofs.copier.next.Statement.{statement}
-use Rattle.tokens.proofs.copier.next.Tie as tie
+use Rattle.copying.proofs.next.Statement.{statement}
+use Rattle.copying.proofs.next.Tie as tie
 
 pair-requires : tie.Need-pair-requires
 pair-requires c κs = search needs

@@ -6,48 +6,21 @@ use mathlib.Core.List.{List, [], _∷_, _++_, append-nil, append-assoc}
 use Prim.Native.Nat.{ℕ, zero, suc, _+_, _-_, _<_, _≤_}
 use native.Mathlib.Omega.{arith}
 use native.Mathlib.Numerals.{add-one}
-use lib.Dec.{leb, ltb}
+use lib.Dec.{ltb}
 use lib.ListN.{length, getD, take, drop, set, length-append, length-drop, take-append-drop}
 use lib.Seq.{length-take-le, take-at, drop-at, set-split, drop-drop, take-append-seam, append-snoc, paste, paste-zero, paste-suc, getD-drop}
-use borrow.Author.Tests.{le-leb, lt-leb, le-ltb, lt-ltb}
+use borrow.Author.Tests.{le-ltb, lt-ltb}
 use Rattle.chars.specs.Choice.{if_then_else_}
 use Rattle.chars.specs.Character.{characterAt, encoded, nearest, padded}
-use Rattle.chars.specs.Stream.{Stream, next, stop, streamAt, clean}
+use Rattle.chars.specs.Stream.{streamAt, clean}
 use Rattle.chars.specs.declared.Character.the-variants.{Clean}
-use Rattle.chars.proofs.Extent.{encoded-size, encoded-one, nearest-own}
-use Rattle.chars.proofs.Streams.{at-character, at-none}
-use Rattle.tokens.specs.Copy.{copied, copiedInto}
+use Rattle.chars.proofs.Extent.{encoded-one, nearest-own}
 use Rattle.tokens.proofs.Passing.{class-at}
 use Rattle.tokens.proofs.Classes.{low}
+use Rattle.tokens.proofs.Clean.{clean-next}
 use Rattle.tokens.proofs.Skipping.{alone-at, scalar}
-use Rattle.tokens.specs.declared.copier.Copied.{Copied}
-use Rattle.tokens.specs.declared.copier.Copied.the-variants.{Whole, TooSmall}
-
--- no room, no bytes
-pub clean-zero : (s : Stream) → clean 0 s ≡ []
-unfolding clean
-clean-zero (stop refusal place) = refl
-clean-zero (next number place after rest) = rw (lt-leb (length (encoded number)) 0 (encoded-size number .0))
-
-module _ (draft : List ℕ) (i m : ℕ) where
-  -- the next character fits
-  pub clean-next :
-      (number after : ℕ) → characterAt draft i ≡ Clean number after → length (encoded number) ≤ m
-      → clean m (streamAt draft i) ≡ encoded number ++ clean (m - length (encoded number)) (streamAt draft after)
-  unfolding clean
-  clean-next number after e h = rw (at-character draft i number after e, le-leb (length (encoded number)) m h)
-
-  -- it does not
-  pub clean-full :
-      (number after : ℕ) → characterAt draft i ≡ Clean number after → m < length (encoded number) → clean m (streamAt draft i) ≡ []
-  unfolding clean
-  clean-full number after e h = rw (at-character draft i number after e, lt-leb (length (encoded number)) m h)
-
-  -- there is none
-  pub clean-none :
-      ((number after : ℕ) → characterAt draft i ≡ Clean number after → ⊥) → clean m (streamAt draft i) ≡ []
-  unfolding clean
-  clean-none none = rw (at-none draft i none)
+use Rattle.copying.specs.Copy.{copied, copiedInto}
+use Rattle.copying.specs.declared.Copied.the-variants.{Whole, TooSmall}
 
 -- the bytes of a re-encoded character in their four bytes
 pub unpadded : (bytes : List ℕ) → take (length bytes) (padded bytes) ≡ bytes

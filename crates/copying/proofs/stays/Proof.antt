@@ -1,10 +1,10 @@
--- `tokens::copier::stays` meets its contract: a byte of US-ASCII that is neither nul nor CR has a class above 0. Assumes nothing.
+-- `copying::stays` meets its contract: a byte of US-ASCII that is neither nul nor CR has a class above 0. Assumes nothing.
 use mathlib.Core.Bool.{false≢true}
 use native.Mathlib.Omega.{arith}
 use borrow.Author.Tests.{ltb-true}
 use Rattle.tokens.proofs.Classes.{has-class}
-use Rattle.tokens.proofs.copier.stays.Statement.{statement}
-use Rattle.tokens.proofs.copier.stays.Tie as tie
+use Rattle.copying.proofs.stays.Statement.{statement}
+use Rattle.copying.proofs.stays.Tie as tie
 
 returns : tie.Need-returns
 returns c e = absurd (false≢true e)

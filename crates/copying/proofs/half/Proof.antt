@@ -1,10 +1,10 @@
--- `tokens::copier::half` meets its contract: each test of the code is one of those that make three bytes from ED on a surrogate. Assumes
+-- `copying::half` meets its contract: each test of the code is one of those that make three bytes from ED on a surrogate. Assumes
 -- nothing.
 use native.Mathlib.Omega.{arith}
 use borrow.Author.Needs.{needs}
-use Rattle.tokens.proofs.Pairs.{surrogate}
-use Rattle.tokens.proofs.copier.half.Statement.{statement}
-use Rattle.tokens.proofs.copier.half.Tie as tie
+use Rattle.copying.proofs.Pairs.{surrogate}
+use Rattle.copying.proofs.half.Statement.{statement}
+use Rattle.copying.proofs.half.Tie as tie
 
 shared-slice-read-if1 : tie.Need-shared-slice-read-if1
 shared-slice-read-if1 c = search needs

@@ -9,8 +9,8 @@ use native.Mathlib.Numerals.{add-one}
 use borrow.Author.Needs.{needs}
 use lib.ListN.{length, length-set, getD, set}
 use lib.Seq.{paste, paste-zero, paste-suc, length-paste}
-use Rattle.tokens.proofs.copier.put.Statement.{statement}
-use Rattle.tokens.proofs.copier.put.Tie as tie
+use Rattle.copying.proofs.put.Statement.{statement}
+use Rattle.copying.proofs.put.Tie as tie
 
 -- four stores in a row
 four :

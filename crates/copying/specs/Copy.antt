@@ -6,8 +6,8 @@ use lib.Dec.{ltb}
 use lib.ListN.{length, drop}
 use Rattle.chars.specs.Choice.{if_then_else_}
 use Rattle.chars.specs.Stream.{streamAt, clean}
-use Rattle.tokens.specs.declared.copier.Copied.{Copied}
-use Rattle.tokens.specs.declared.copier.Copied.the-variants.{Whole, TooSmall}
+use Rattle.copying.specs.declared.Copied.{Copied}
+use Rattle.copying.specs.declared.Copied.the-variants.{Whole, TooSmall}
 
 -- the part is too small for `n` bytes, or so many clean bytes were written: `n`, where `n` is the clean length of what begins at `from`
 unfoldable pub copied : (draft : List ℕ) → (from n : ℕ) → (before : List ℕ) → Copied

@@ -1,4 +1,4 @@
--- `tokens::copier::kept` meets its contract. The invariant: the part is the one lent, with as many bytes of the draft pasted in as turns
+-- `copying::kept` meets its contract. The invariant: the part is the one lent, with as many bytes of the draft pasted in as turns
 -- were made, each with a class above 0. Assumes nothing.
 use mathlib.Core.Path.{_≡_, refl}
 use Prim.Native.Nat.{ℕ, _-_, _+_, _<_, _≤_}
@@ -9,9 +9,9 @@ use lib.Seq.{paste, paste-zero, paste-suc, getD-drop}
 use borrow.Author.Count.{below-more}
 use borrow.Author.Needs.{needs}
 use borrow.Author.Tests.{not-false}
 use Rattle.tokens.specs.Runs.{classOf}
-use Rattle.tokens.proofs.copier.kept.Statement.{statement}
-use Rattle.tokens.proofs.copier.kept.Tie as tie
+use Rattle.copying.proofs.kept.Statement.{statement}
+use Rattle.copying.proofs.kept.Tie as tie
 
 abbrev Inv-loop : tie.InvT-loop
 Inv-loop draft from n out₀ at k₀ out k =
