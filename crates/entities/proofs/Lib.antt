@@ -5,8 +5,6 @@ pub mod Cutting
 pub mod Shortages
 pub mod Fitting
 mod Rows
-mod Rules
+pub mod Rules
 pub mod Entering
-mod Alone
-mod Leading
 pub mod Unique

@@ -22,6 +22,9 @@ refusal κs given a b x y = one
 pub goes : OneAnswer fn.bare.goes.Kinds.ps fn.bare.goes.Kinds.r fn.bare.goes.Reads.Post
 goes κs given a b x y = one
 
+pub array-begins : OneAnswer fn.arrays.array_begins.Kinds.ps fn.arrays.array_begins.Kinds.r fn.arrays.array_begins.Reads.Post
+array-begins κs given a b x y = one
+
 pub crowded : OneAnswer fn.brought.crowded.Kinds.ps fn.brought.crowded.Kinds.r fn.brought.crowded.Reads.Post
 crowded κs given a b x y = one
 
@@ -68,7 +71,7 @@ agreed (holds es left r) (Goes t) (Goes v) s list text l ta g m u k place p q =
     ((one (p .2) (q .2), one (p .3) (q .3)), one (p .0) (q .0), one (p .1) (q .1))
 
 -- the same of a token that has no text
-agreed-bare :
+pub agreed-bare :
     (h : Handled) (a b : Took) (s : State) (list text l t g m u k : List ℕ) (place : ℕ) → agrees h a s list text l t g place
     → agrees h b s list text m u k place → Same a b × (l ≡ m)
 agreed-bare h a b s list text l t g m u k place p q =
@@ -76,13 +79,6 @@ agreed-bare h a b s list text l t g m u k place p q =
     (alike .0, alike .1)
 
 -- These ask for what is held so far, and their contracts speak of any text buffer that it fits: with one there are no two answers.
-pub last :
-    (κs : Lfts 2) (given : Dens κs fn.last.last.Kinds.ps) (a b : Step)
-    (x y : AtExit (endedOf 2 fn.last.last.Kinds.ps fn.last.last.Kinds.r) κs) (text : List ℕ)
-    → Ready (given .1 .1 .0) (given .0 .now) text (given .1 .0 .now) (given .1 .1 .1 .0) → fn.last.last.Reads.Post κs given a x
-    → fn.last.last.Reads.Post κs given b y → Same (took a) (took b) × (x .0 .now ≡ y .0 .now)
-last κs given a b x y text ready p q = agreed-bare _ (took a) (took b) _ _ _ _ _ _ _ _ _ _ (p text ready) (q text ready)
-
 pub metacommand-begins :
     (κs : Lfts 2) (given : Dens κs fn.metacommands.metacommand_begins.Kinds.ps) (a b : Step)
     (x y : AtExit (endedOf 2 fn.metacommands.metacommand_begins.Kinds.ps fn.metacommands.metacommand_begins.Kinds.r) κs) (text : List ℕ)
@@ -103,12 +99,42 @@ unfolding Ruled
 metacommand-ends κs given a b x y text ready p q =
     agreed-bare _ (took a) (took b) _ _ _ _ _ _ _ _ _ _ (p (0x3B ∷ []) text refl ready) (q (0x3B ∷ []) text refl ready)
 
-pub structure :
-    (κs : Lfts 2) (given : Dens κs fn.structure.structure.Kinds.ps) (a b : Step)
-    (x y : AtExit (endedOf 2 fn.structure.structure.Kinds.ps fn.structure.structure.Kinds.r) κs) (text : List ℕ)
-    → Ready (given .1 .1 .0) (given .0 .now) text (given .1 .0 .now) (given .1 .1 .1 .1 .0)
-    → fn.structure.structure.Reads.Post κs given a x → fn.structure.structure.Reads.Post κs given b y
+pub group-begins :
+    (κs : Lfts 2) (given : Dens κs fn.groups.group_begins.Kinds.ps) (a b : Step)
+    (x y : AtExit (endedOf 2 fn.groups.group_begins.Kinds.ps fn.groups.group_begins.Kinds.r) κs) (text : List ℕ)
+    → Ready (given .1 .1 .0) (given .0 .now) text (given .1 .0 .now) (given .1 .1 .1 .0)
+    → fn.groups.group_begins.Reads.Post κs given a x → fn.groups.group_begins.Reads.Post κs given b y
     → Same (took a) (took b) × (x .0 .now ≡ y .0 .now)
-structure κs given a b x y text ready p q =
-    let c = given .1 .1 .1 .0 in
-    agreed-bare _ (took a) (took b) _ _ _ _ _ _ _ _ _ _ (p (c ∷ []) text refl ready) (q (c ∷ []) text refl ready)
+unfolding Ruled
+group-begins κs given a b x y text ready p q =
+    agreed-bare _ (took a) (took b) _ _ _ _ _ _ _ _ _ _ (p (0x28 ∷ []) text refl ready) (q (0x28 ∷ []) text refl ready)
+
+pub group-ends :
+    (κs : Lfts 2) (given : Dens κs fn.groups.group_ends.Kinds.ps) (a b : Step)
+    (x y : AtExit (endedOf 2 fn.groups.group_ends.Kinds.ps fn.groups.group_ends.Kinds.r) κs) (text : List ℕ)
+    → Ready (given .1 .1 .0) (given .0 .now) text (given .1 .0 .now) (given .1 .1 .1 .0)
+    → fn.groups.group_ends.Reads.Post κs given a x → fn.groups.group_ends.Reads.Post κs given b y
+    → Same (took a) (took b) × (x .0 .now ≡ y .0 .now)
+unfolding Ruled
+group-ends κs given a b x y text ready p q =
+    agreed-bare _ (took a) (took b) _ _ _ _ _ _ _ _ _ _ (p (0x29 ∷ []) text refl ready) (q (0x29 ∷ []) text refl ready)
+
+pub element-ends :
+    (κs : Lfts 2) (given : Dens κs fn.arrays.element_ends.Kinds.ps) (a b : Step)
+    (x y : AtExit (endedOf 2 fn.arrays.element_ends.Kinds.ps fn.arrays.element_ends.Kinds.r) κs) (text : List ℕ)
+    → Ready (given .1 .1 .0) (given .0 .now) text (given .1 .0 .now) (given .1 .1 .1 .0)
+    → fn.arrays.element_ends.Reads.Post κs given a x → fn.arrays.element_ends.Reads.Post κs given b y
+    → Same (took a) (took b) × (x .0 .now ≡ y .0 .now)
+unfolding Ruled
+element-ends κs given a b x y text ready p q =
+    agreed-bare _ (took a) (took b) _ _ _ _ _ _ _ _ _ _ (p (0x2C ∷ []) text refl ready) (q (0x2C ∷ []) text refl ready)
+
+pub array-ends :
+    (κs : Lfts 2) (given : Dens κs fn.arrays.array_ends.Kinds.ps) (a b : Step)
+    (x y : AtExit (endedOf 2 fn.arrays.array_ends.Kinds.ps fn.arrays.array_ends.Kinds.r) κs) (text : List ℕ)
+    → Ready (given .1 .1 .0) (given .0 .now) text (given .1 .0 .now) (given .1 .1 .1 .0)
+    → fn.arrays.array_ends.Reads.Post κs given a x → fn.arrays.array_ends.Reads.Post κs given b y
+    → Same (took a) (took b) × (x .0 .now ≡ y .0 .now)
+unfolding Ruled
+array-ends κs given a b x y text ready p q =
+    agreed-bare _ (took a) (took b) _ _ _ _ _ _ _ _ _ _ (p (0x5D ∷ []) text refl ready) (q (0x5D ∷ []) text refl ready)

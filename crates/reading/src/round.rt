@@ -6,12 +6,12 @@ ghost use Rattle.scan.specs.Bytes.{beginsAt};
 ghost use Rattle.scan.specs.Opens.{Ended as EndedBy};
 ghost use Rattle.entities.specs.Stepping.{Ready, took};
 ghost use Rattle.reading.specs.Rounds.{goesRound, turn, behindOf, endedOf};
-use entities::last::last;
 use entities::metacommands::metacommand_ends;
 use entities::state::State;
 use entities::state::Step;
-use entities::structure::structure;
 use scan::word::Ended;
+use structure::last::last;
+use structure::structure;
 use texts::take;
 use texts::take_word;
 

@@ -3,11 +3,11 @@
 -- nor `)` is `%`, and above what is none of , [ ] is `;`, which is 11. Assumes nothing.
 use mathlib.Core.Path.{refl}
 use native.Mathlib.Omega.{arith}
-use Rattle.entities.proofs.Alone.{percent, semicolon, of-byte, stray}
+use Rattle.structure.proofs.Alone.{percent, semicolon, of-byte, stray}
 use Rattle.entities.proofs.Rules.{array-allowed}
 use borrow.Author.Needs.{needs}
-use Rattle.entities.proofs.structure.ruled.Statement.{statement}
-use Rattle.entities.proofs.structure.ruled.Tie as tie
+use Rattle.structure.proofs.ruled.Statement.{statement}
+use Rattle.structure.proofs.ruled.Tie as tie
 
 group-begins-requires : tie.Need-group-begins-requires
 group-begins-requires c κs = search needs

@@ -6,20 +6,23 @@ ghost use Prim.Native.Nat.{ℕ, _<_, _≤_};
 ghost use lib.Dec.{eqb};
 ghost use lib.ListN.{getD};
 ghost use Rattle.chars.specs.Limits.{limits as base};
 ghost use Rattle.entities.specs.Making.{handled};
 ghost use Rattle.entities.specs.Stepping.{Ready, Steady, roomLeft, readerOf, agrees, took, judgedAs, closingAs, structural, Ruled};
 ghost use Rattle.entities.specs.Stepping.{refusedBehind, ownBehind, Led};
-use crate::arrays::array_begins;
-use crate::arrays::array_ends;
-use crate::arrays::element_ends;
-use crate::bare::stops;
-use crate::brought::begin_group;
-use crate::groups::group_begins;
-use crate::groups::group_ends;
-use crate::metacommands::metacommand_begins;
-use crate::state::State;
-use crate::state::Step;
+
+pub mod last;
+
 use chars::limits;
+use entities::arrays::array_begins;
+use entities::arrays::array_ends;
+use entities::arrays::element_ends;
+use entities::bare::stops;
+use entities::brought::begin_group;
+use entities::groups::group_begins;
+use entities::groups::group_ends;
+use entities::metacommands::metacommand_begins;
+use entities::state::State;
+use entities::state::Step;
 
 // The token `c` by its own rules: `;` is 11.
 fn ruled(list: &mut [u32], groups: &mut [u32], s: State, c: u8, place: usize) -> Step

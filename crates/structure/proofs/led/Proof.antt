@@ -4,11 +4,11 @@
 use mathlib.Core.Path.{sym, _∙_}
 use native.Mathlib.Omega.{arith}
 use borrow.Author.Tests.{not-true, not-false}
 use Rattle.entities.specs.Stepping.{refused}
-use Rattle.entities.proofs.Leading.{not-led, too-deep, no-group, by-its-rules, no-rows, is-led, own-few}
+use Rattle.structure.proofs.Leading.{not-led, too-deep, no-group, by-its-rules, no-rows, is-led, own-few}
 use borrow.Author.Needs.{needs}
-use Rattle.entities.proofs.structure.led.Statement.{statement}
-use Rattle.entities.proofs.structure.led.Tie as tie
+use Rattle.structure.proofs.led.Statement.{statement}
+use Rattle.structure.proofs.led.Tie as tie
 
 brings-requires : tie.Need-brings-requires
 brings-requires c κs = search needs

@@ -3,10 +3,10 @@
 use mathlib.Core.Path.{sym, _∙_}
 use lib.Dec.{eqb}
 use borrow.Author.Needs.{needs}
 use Rattle.entities.proofs.Entering.{not-crowded}
-use Rattle.entities.proofs.Alone.{ended-17, ended-18, ended-array, ended-metacommand, ended-open, ended}
-use Rattle.entities.proofs.last.last.Statement.{statement}
-use Rattle.entities.proofs.last.last.Tie as tie
+use Rattle.structure.proofs.Alone.{ended-17, ended-18, ended-array, ended-metacommand, ended-open, ended}
+use Rattle.structure.proofs.last.last.Statement.{statement}
+use Rattle.structure.proofs.last.last.Tie as tie
 
 crowded-requires : tie.Need-crowded-requires
 crowded-requires c κs = search needs

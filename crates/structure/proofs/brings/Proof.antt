@@ -1,7 +1,7 @@
 -- `entities::structure::brings` meets its contract: it is the test itself. Assumes nothing.
 use borrow.Author.Tests.{eq-eqb, ne-eqb}
-use Rattle.entities.proofs.structure.brings.Statement.{statement}
-use Rattle.entities.proofs.structure.brings.Tie as tie
+use Rattle.structure.proofs.brings.Statement.{statement}
+use Rattle.structure.proofs.brings.Tie as tie
 
 returns : tie.Need-returns
 returns c = rw (ne-eqb (c .before .args .mode) 1 (c .if1 .taken))

@@ -1,10 +1,10 @@
 -- `entities::structure::refused` meets its contract: each test is the definition's. Assumes nothing.
 use Prim.Native.Nat.{_+_}
 use borrow.Author.Tests.{eq-eqb, ne-eqb, le-leb, lt-leb}
 use Rattle.entities.specs.Stepping.{refusedBehind}
 use borrow.Author.Needs.{needs}
-use Rattle.entities.proofs.structure.refused.Statement.{statement}
-use Rattle.entities.proofs.structure.refused.Tie as tie
+use Rattle.structure.proofs.refused.Statement.{statement}
+use Rattle.structure.proofs.refused.Tie as tie
 
 returns : tie.Need-returns
 unfolding refusedBehind

@@ -2,10 +2,10 @@
 -- behind
 -- the group that it brought is told of the state before. Assumes nothing.
 use native.Mathlib.Omega.{arith}
-use Rattle.entities.proofs.Leading.{led-stopped, led-steady, led-told}
+use Rattle.structure.proofs.Leading.{led-stopped, led-steady, led-told}
 use borrow.Author.Needs.{needs}
-use Rattle.entities.proofs.structure.structure.Statement.{statement}
-use Rattle.entities.proofs.structure.structure.Tie as tie
+use Rattle.structure.proofs.structure.Statement.{statement}
+use Rattle.structure.proofs.structure.Tie as tie
 
 led-requires : tie.Need-led-requires
 led-requires c κs = search needs

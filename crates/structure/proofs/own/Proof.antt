@@ -1,8 +1,8 @@
 -- `entities::structure::own` meets its contract: each test is the definition's. Assumes nothing.
 use borrow.Author.Tests.{eq-eqb, ne-eqb}
 use Rattle.entities.specs.Stepping.{ownBehind}
-use Rattle.entities.proofs.structure.own.Statement.{statement}
-use Rattle.entities.proofs.structure.own.Tie as tie
+use Rattle.structure.proofs.own.Statement.{statement}
+use Rattle.structure.proofs.own.Tie as tie
 
 returns : tie.Need-returns
 unfolding ownBehind

@@ -10,23 +10,23 @@ use lib.Dec.{eqb, leb, ltb}
 use lib.ListN.{length, getD, length-append}
 use borrow.Author.Tests.{ne-eqb, eqb-true, lt-ltb, le-ltb, le-leb, leb-true, leb-false, not-true}
 use Rattle.chars.proofs.Cases.{either, both}
 use Rattle.entities.specs.Entity.{Entity, bare, sizes}
 use Rattle.entities.specs.Making.{Reader, Room, Judged, refuses, makes, holds, fitted, handled, within-groups, shortage}
 use Rattle.entities.specs.Making.{group-begins, group-ends, element-ends, regular, judged, closing}
 use Rattle.entities.specs.Judging.{bares, one, kindOf, written}
 use Rattle.entities.specs.Stepping.{Ready, Steady, openGroups, below, roomLeft, readerOf, agrees, Took, Goes, Stops, took, judgedAs}
 use Rattle.entities.specs.Stepping.{closingAs, Ruled}
 use Rattle.entities.specs.Stepping.{enteredBy, enteredGroups, leadOf, ledBy, Leads, Led, refused, leads, bringsBy, refusedBehind}
 use Rattle.entities.specs.Stepping.{ownBehind, Told, structural}
 use Rattle.entities.specs.declared.state.State.{State}
 use Rattle.entities.specs.declared.state.Step.{Step}
 use Rattle.entities.proofs.OpenGroups.{so-many}
 use Rattle.entities.proofs.Listing.{written-none, written-length}
 use Rattle.entities.proofs.Cutting.{bare-first, bare-text}
 use Rattle.entities.proofs.Shortages.{bare-one}
 use Rattle.entities.proofs.Fitting.{Empty, nothing, more, empty-bares, empty-sizes, empty-short, stopped, went}
 use Rattle.entities.proofs.Entering.{too-many, no-room}
-use Rattle.entities.proofs.Alone.{one-of-seven, told}
+use Rattle.structure.proofs.Alone.{one-of-seven, told}
 
 -- What a token is judged to be with the begin group open that it brings: refused, or so many entities without text.
 pub data Behind (c depth : ℕ) : Judged → Type 0 where

@@ -4,14 +4,14 @@ ghost use mathlib.Core.Bool.{false};
 ghost use mathlib.Core.List.{List};
 ghost use Prim.Native.Nat.{ℕ, _<_, _≤_};
 ghost use Rattle.chars.specs.Limits.{limits as base};
 ghost use Rattle.entities.specs.Making.{handled, judged-last};
 ghost use Rattle.entities.specs.Stepping.{Ready, Steady, roomLeft, readerOf, agrees, took};
-use crate::bare::one;
-use crate::bare::stops;
-use crate::brought::crowded;
-use crate::brought::roomless;
-use crate::state::State;
-use crate::state::Step;
+use entities::bare::one;
+use entities::bare::stops;
+use entities::brought::crowded;
+use entities::brought::roomless;
+use entities::state::State;
+use entities::state::Step;
 
 pub fn last(list: &mut [u32], groups: &[u32], s: State, place: usize) -> Step
     requires { ⌜ (place < 16384) × Steady s (now list) (now groups) place ⌝ }

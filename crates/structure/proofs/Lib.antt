@@ -1,0 +1,3 @@
+mod Alone
+mod Leading
+pub mod Unique
