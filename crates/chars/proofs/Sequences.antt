@@ -110,6 +110,12 @@ module _ (draft : List ℕ) (at : ℕ) (h : at < length draft) where
   rest n base =
       continued n (lowest (getD draft at 0)) (highest (getD draft at 0)) (getD draft at 0 - base) (drop (at + 1) draft) (at + 1)
 
+  -- the same, with what was asked of the first byte
+  pub rest-is :
+      (n base low high number : ℕ) → low ≡ lowest (getD draft at 0) → high ≡ highest (getD draft at 0) → number ≡ getD draft at 0 - base
+      → continued n low high number (drop (at + 1) draft) (at + 1) ≡ rest n base
+  rest-is n base low high number l g e = rw (l, g, e) refl
+
   pub two : 0xC2 ≤ getD draft at 0 → getD draft at 0 < 0xE0 → sequence (drop at draft) at ≡ rest 1 0xC0
   two g l = rw (drop-cons draft at 0 h, add-one) (begins-two (getD draft at 0) (drop (suc at) draft) at g l)
 

@@ -1,7 +1,7 @@
 -- `chars::sequence_at` meets its contract: each way out is the law for the range of the first byte that its tests leave. Assumes nothing.
-use mathlib.Core.Path.{sym}
+use mathlib.Core.Path.{sym, _∙_}
 use native.Mathlib.Omega.{arith}
-use Rattle.chars.proofs.Sequences.{nothing, single, stray, none, two, three, four}
+use Rattle.chars.proofs.Sequences.{nothing, single, stray, none, rest-is, two, three, four}
 use borrow.Author.Needs.{needs}
 use Rattle.chars.proofs.sequence_at.Statement.{statement}
 use Rattle.chars.proofs.sequence_at.Tie as tie
@@ -19,8 +19,9 @@ add-t11 : tie.Need-add-t11
 add-t11 c = search needs
 
 returns-2 : tie.Need-returns-2
-returns-2 c = let a = c .before .before .before .before .before .args in let law = single (a .draft .now) (a .at) (omega arith)
-    (omega arith) in cc
+returns-2 c =
+    let a = c .before .before .before .before .before .args in
+    rw (c .wide .ensures) (sym (single (a .draft .now) (a .at) (omega arith) (omega arith)))
 
 returns-3 : tie.Need-returns-3
 returns-3 c = sym (stray _ _ (omega arith) (omega arith) (omega arith))
@@ -47,8 +48,15 @@ continued-requires : tie.Need-continued-requires
 continued-requires c κs = search needs
 
 returns-5 : tie.Need-returns-5
-returns-5 c = let a = c .before .before .before .before .before .before .before .before .before .before .before .args in let law = two
-    (a .draft .now) (a .at) (omega arith) (omega arith) (omega arith) in cc
+returns-5 c =
+    let a = c .before .before .before .before .before .before .before .before .before .before .before .args in
+    let low = c .before .before .before .before .lowest-second in
+    let high = c .before .before .before .highest-second in
+    let number = c .before .wide2 in
+    c .continued .ensures
+    ∙ (rest-is (a .draft .now) (a .at) (omega arith) 1 0xC0 (low .result) (high .result) (number .result) (low .ensures .0) (high
+    .ensures .0)
+    (number .ensures) ∙ sym (two (a .draft .now) (a .at) (omega arith) (omega arith) (omega arith)))
 
 add-continued-2 : tie.Need-add-continued-2
 add-continued-2 c = search needs
@@ -60,8 +68,15 @@ continued-requires-2 : tie.Need-continued-requires-2
 continued-requires-2 c κs = search needs
 
 returns-6 : tie.Need-returns-6
-returns-6 c = let a = c .before .before .before .before .before .before .before .before .before .before .before .before .args in let law =
-    three (a .draft .now) (a .at) (omega arith) (omega arith) (omega arith) in cc
+returns-6 c =
+    let a = c .before .before .before .before .before .before .before .before .before .before .before .before .args in
+    let low = c .before .before .before .before .before .lowest-second in
+    let high = c .before .before .before .before .highest-second in
+    let number = c .before .wide3 in
+    c .continued2 .ensures
+    ∙ (rest-is (a .draft .now) (a .at) (omega arith) 2 0xE0 (low .result) (high .result) (number .result) (low .ensures .0) (high
+    .ensures .0)
+    (number .ensures) ∙ sym (three (a .draft .now) (a .at) (omega arith) (omega arith) (omega arith)))
 
 add-continued-3 : tie.Need-add-continued-3
 add-continued-3 c = search needs
@@ -73,8 +88,15 @@ continued-requires-3 : tie.Need-continued-requires-3
 continued-requires-3 c κs = search needs
 
 returns-7 : tie.Need-returns-7
-returns-7 c = let a = c .before .before .before .before .before .before .before .before .before .before .before .before .args in let law =
-    four (a .draft .now) (a .at) (omega arith) (omega arith) (omega arith) in cc
+returns-7 c =
+    let a = c .before .before .before .before .before .before .before .before .before .before .before .before .args in
+    let low = c .before .before .before .before .before .lowest-second in
+    let high = c .before .before .before .before .highest-second in
+    let number = c .before .wide4 in
+    c .continued3 .ensures
+    ∙ (rest-is (a .draft .now) (a .at) (omega arith) 3 0xF0 (low .result) (high .result) (number .result) (low .ensures .0) (high
+    .ensures .0)
+    (number .ensures) ∙ sym (four (a .draft .now) (a .at) (omega arith) (omega arith) (omega arith)))
 
 pub sequence-at-spec : {M : Type 1} → statement M
 sequence-at-spec =
