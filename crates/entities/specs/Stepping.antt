@@ -11,7 +11,7 @@ use Rattle.chars.specs.Limits.{limits}
 use Rattle.chars.specs.Stream.{streamAt, clean}
 use Rattle.tokens.specs.Tokens.{simple, quoted, curly}
 use Rattle.tokens.specs.Runs.{classOf}
-use Rattle.scan.specs.Bytes.{beginsOf}
+use Rattle.runs.specs.Bytes.{beginsOf}
 use Rattle.entities.specs.Entity.{Entity, sizes}
 use Rattle.entities.specs.Making.{Reader, Judged, Room, Handled, stops, holds, fitted, handled, closing, judged, judged-last}
 use Rattle.entities.specs.Judging.{bares, one, written, textWritten}

@@ -18,7 +18,7 @@ use Rattle.tokens.specs.Tokens.{tokens, between, tokenAt}
 use Rattle.tokens.specs.declared.Token.{Token}
 use Rattle.tokens.specs.declared.Token.the-variants.{Simple, Quoted, Curly, Last, Refused}
 use Rattle.tokens.proofs.Clean.{clean-zero}
-use Rattle.scan.specs.Bytes.{beginsOf, beginsAt}
+use Rattle.runs.specs.Bytes.{beginsOf, beginsAt}
 use Rattle.scan.specs.Found.{pieceOf, Finds, passes, tells}
 use Rattle.scan.specs.declared.Piece.{Piece}
 use Rattle.scan.proofs.Starts.{alone-other}

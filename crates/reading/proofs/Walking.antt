@@ -14,7 +14,7 @@ use Rattle.chars.specs.Stream.{start, streamAt, clean}
 use Rattle.tokens.specs.Tokens.{Sort, simple, quoted, curly, Whole, Tokens, token, last, tokens, between, first, shown, tokenAt}
 use Rattle.tokens.proofs.OneByOne.{OneByOne, more, final, none, Sound, one-by-one}
 use Rattle.tokens.proofs.Clean.{clean-zero}
-use Rattle.scan.specs.Bytes.{blanks}
+use Rattle.runs.specs.Bytes.{blanks}
 use Rattle.scan.specs.Found.{pieceOf}
 use Rattle.scan.specs.declared.Piece.{Piece}
 use Rattle.scan.proofs.Blanks.{behind-blanks}

@@ -10,7 +10,7 @@ mod round;
 use chars::limits;
 use entities::state::State;
 use round::go_round;
-use scan::blank::past_blanks;
+use runs::blank::past_blanks;
 
 // The answer of read and of check. A number that an answer has no use for is 0.
 #[repr(C)]

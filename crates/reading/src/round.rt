@@ -2,14 +2,14 @@
 ghost use mathlib.Core.Path.{_≡_};
 ghost use Prim.Native.Nat.{_≤_, _<_};
 ghost use lib.ListN.{length, getD};
-ghost use Rattle.scan.specs.Bytes.{beginsAt};
+ghost use Rattle.runs.specs.Bytes.{beginsAt};
 ghost use Rattle.scan.specs.Opens.{Ended as EndedBy};
 ghost use Rattle.entities.specs.Stepping.{Ready, took};
 ghost use Rattle.reading.specs.Rounds.{goesRound, turn, behindOf, endedOf};
 use entities::metacommands::metacommand_ends;
 use entities::state::State;
 use entities::state::Step;
-use scan::word::Ended;
+use scan::Ended;
 use structure::last::last;
 use structure::structure;
 use texts::take;

@@ -1,39 +1,19 @@
--- Whitespace that stands first, counted byte by byte: the count goes on behind each of its bytes, and the tokens behind it are the same
--- as
--- before it, since each of its bytes is passed over alone.
-use mathlib.Core.Path.{_≡_, refl, sym, _∙_, ap}
+-- Whitespace that stands first: the tokens behind it are the same as before it, since each of its bytes is passed over alone.
+use mathlib.Core.Path.{_≡_, refl, _∙_, ap}
 use mathlib.Core.Bool.{true, false}
-use mathlib.Core.List.{List, [], _∷_}
-use Prim.Native.Nat.{ℕ, zero, suc, _+_, _<_, _≤_}
+use mathlib.Core.List.{List}
+use Prim.Native.Nat.{ℕ, zero, suc, _+_}
 use native.Mathlib.Omega.{arith}
-use native.Mathlib.Numerals.{add-one}
-use lib.ListN.{length, getD, drop, length-drop, drop-of-length-le}
-use lib.Seq.{drop-cons, drop-drop}
+use lib.ListN.{length, getD, drop}
 use Rattle.chars.specs.Limits.{limits}
 use Rattle.chars.specs.Stream.{streamAt}
 use Rattle.chars.proofs.Cases.{either, by-bound}
 use Rattle.tokens.specs.Sorts.{white}
 use Rattle.tokens.specs.Tokens.{Tokens, tokens, between}
-use Rattle.scan.specs.Bytes.{beginsOf, blanks}
+use Rattle.runs.specs.Bytes.{beginsOf, blanks}
+use Rattle.runs.proofs.Blanks.{blank-first, none-first, no-blanks}
 use Rattle.scan.proofs.Starts.{blank-byte}
 
-module _ (draft : List ℕ) (at : ℕ) where
-  -- whitespace stands here
-  pub blank-first :
-      at < length draft → white (getD draft at 0) ≡ true → blanks (drop at draft) ≡ blanks (drop (at + 1) draft) + 1
-  unfolding blanks
-  blank-first h e = rw (drop-cons draft at 0 h, add-one at, add-one (blanks (drop (suc at) draft)), e)
-
-  -- or something else, or nothing
-  pub none-first : at < length draft → white (getD draft at 0) ≡ false → blanks (drop at draft) ≡ 0
-  unfolding blanks
-  none-first h e = rw (drop-cons draft at 0 h, e)
-
-  pub no-blanks : length draft ≤ at → blanks (drop at draft) ≡ 0
-  unfolding blanks
-  no-blanks h = rw (drop-of-length-le draft {i = at} h)
-
--- the tokens behind it
 module _ (draft : List ℕ) where
   abbrev from : (at : ℕ) → Tokens
   from at = tokens limits between (streamAt draft at)

@@ -22,8 +22,8 @@ use Rattle.tokens.specs.Tokens.{string, up, down, nested, inside, step, follows
 use Rattle.tokens.specs.Runs.{sortOf, openedAs}
 use Rattle.tokens.proofs.Skipping.{by-character, reaches, no-mark}
 use Rattle.tokens.proofs.Strings.{closes-here, goes-on}
-use Rattle.scan.specs.Bytes.{plain, Passed}
-use Rattle.scan.specs.Wide.{Wider, Wides, none, more}
+use Rattle.runs.specs.Bytes.{plain, Passed}
+use Rattle.runs.specs.Wide.{Wider, Wides, none, more}
 use Rattle.scan.specs.Data.{Even, Goes}
 use Rattle.scan.specs.Found.{Closed}
 

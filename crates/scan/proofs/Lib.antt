@@ -1,7 +1,3 @@
-pub mod Bytewise
-pub mod Flags
-pub mod Bytes
-pub mod Widths
 pub mod Comments
 pub mod Data
 pub mod Sorts

@@ -20,7 +20,7 @@ use Rattle.tokens.specs.Tokens.{bar, word, string, Outcome, goes, gives, ends, 
 use Rattle.tokens.specs.Tokens.{step, follows, tokens, shown, first, tokenAt}
 use Rattle.tokens.proofs.Classes.{foreign}
 use Rattle.tokens.proofs.Skipping.{alone-at, by-character, own-byte}
-use Rattle.scan.specs.Bytes.{beginsOf}
+use Rattle.runs.specs.Bytes.{beginsOf}
 use Rattle.scan.specs.Found.{pieceOf}
 use Rattle.scan.specs.Opens.{Stands}
 use Rattle.scan.proofs.Sorts.{begins-own, begins-neither, begins-nothing}

@@ -13,7 +13,7 @@ use Rattle.tokens.specs.Sorts.{visible, white, atomic, exclusive, inclusive, le
 use Rattle.tokens.specs.Runs.{classOf}
 use Rattle.tokens.proofs.Table.{below, implied, if-then}
 use Rattle.tokens.proofs.Classes.{Ending}
-use Rattle.scan.specs.Bytes.{beginsOf, endsOf, common}
+use Rattle.runs.specs.Bytes.{beginsOf, endsOf, common}
 
 -- what stands in a list of bytes of US-ASCII is one
 abbrev all-low : List ℕ → Bool

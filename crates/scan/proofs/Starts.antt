@@ -24,7 +24,7 @@ use Rattle.tokens.proofs.Classes.{plain, opening, is-white, atomic-curly, atomi
 use Rattle.tokens.proofs.Skipping.{alone-at, all-remark, no-mark}
 use Rattle.tokens.proofs.Starts as starts
 use Rattle.tokens.proofs.Words as words
-use Rattle.scan.specs.Bytes.{beginsOf, beginsAt}
+use Rattle.runs.specs.Bytes.{beginsOf, beginsAt}
 use Rattle.scan.specs.Found.{Worded}
 use Rattle.scan.specs.Opens.{Opens, Goes, Ends}
 use Rattle.scan.proofs.Sorts.{begins-own, begins-white, begins-atomic, begins-curly, begins-opening, begins-bar}

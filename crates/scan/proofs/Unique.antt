@@ -1,8 +1,6 @@
 -- No second answer meets the contract of a public function of `scan`. `found` may pass over whitespace and comments in pieces, or tell
--- what
--- stands behind them at once: of it there are no two answers that tell a token or a refusal.
-use mathlib.Core.Path.{_≡_, refl, sym, _∙_}
-use mathlib.Core.Bool.{Bool, true, false}
+-- what stands behind them at once: of it there are no two answers that tell a token or a refusal.
+use mathlib.Core.Path.{_≡_}
 use mathlib.Core.List.{List}
 use Prim.Native.Nat.{ℕ}
 use contract.Lifetimes.{Lfts}
@@ -13,23 +11,8 @@ use Rattle.scan.specs.Found.{Finds, passes, tells}
 use Rattle.scan.specs.declared.Piece.{Piece}
 use Rattle.scan.proofs as fn
 
-pub past-blanks : OneAnswer fn.blank.past_blanks.Kinds.ps fn.blank.past_blanks.Kinds.r fn.blank.past_blanks.Reads.Post
-past-blanks κs given a b x y = one
-
-pub begins : OneAnswer fn.byte.begins.Kinds.ps fn.byte.begins.Kinds.r fn.byte.begins.Reads.Post
-begins κs given a b x y = one
-
 pub begins-at : OneAnswer fn.begins_at.Kinds.ps fn.begins_at.Kinds.r fn.begins_at.Reads.Post
 begins-at κs given a b x y = one
-
-pub ends : OneAnswer fn.byte.ends.Kinds.ps fn.byte.ends.Kinds.r fn.byte.ends.Reads.Post
-ends κs given a b x y = one
-
-pub is-line : OneAnswer fn.byte.is_line.Kinds.ps fn.byte.is_line.Kinds.r fn.byte.is_line.Reads.Post
-is-line κs given true true x y p q = refl
-is-line κs given true false x y p q = absurd (q .1 refl _ _ (p .0 refl .1))
-is-line κs given false true x y p q = absurd (p .1 refl _ _ (q .0 refl .1))
-is-line κs given false false x y p q = refl
 
 told : (draft : List ℕ) (at : ℕ) (a b : Piece) → Finds draft at a → Finds draft at b → (a .sort ≡ 5 → ⊥) → (b .sort ≡ 5 → ⊥) → a ≡ b
 told draft at a b (passes s on there same) g n m = absurd (n s)

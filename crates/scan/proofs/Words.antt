@@ -9,7 +9,7 @@ use Rattle.chars.specs.Stream.{streamAt}
 use Rattle.tokens.specs.Tokens.{Tokens, word, tokens}
 use Rattle.tokens.proofs.Passing.{class-at, stepwise}
 use Rattle.tokens.proofs.Words.{longer}
-use Rattle.scan.specs.Bytes.{common, endsOf, Passed}
+use Rattle.runs.specs.Bytes.{common, endsOf, Passed}
 use Rattle.scan.proofs.Sorts.{common-plain, ends-plain}
 
 -- the tokens from `i` on, behind the bytes of a token from `begun` on

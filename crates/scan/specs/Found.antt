@@ -10,7 +10,7 @@ use Rattle.tokens.specs.Tokens.{tokens, between, word, string, closed, first, s
 use Rattle.tokens.specs.Runs.{openedAs}
 use Rattle.tokens.specs.declared.Token.{Token}
 use Rattle.tokens.specs.declared.Token.the-variants.{Simple, Quoted, Curly, Last, Refused}
-use Rattle.scan.specs.Bytes.{endsOf}
+use Rattle.runs.specs.Bytes.{endsOf}
 use Rattle.scan.specs.declared.Piece.{Piece}
 
 -- a string whose data begins at `from` is closed by the byte before `after`, behind `n` clean bytes, whatever its prefix

@@ -5,9 +5,9 @@ ghost use lib.ListN.{length, getD};
 ghost use Rattle.chars.specs.Stream.{streamAt};
 ghost use Rattle.chars.specs.Character.{characterAt};
 ghost use Rattle.tokens.specs.Runs.{pastComment};
-use crate::byte::is_line;
-use crate::eight::past_remark;
-use crate::wide::past_wide;
+use runs::byte::is_line;
+use runs::eight::past_remark;
+use runs::wide::past_wide;
 
 // From `at` on, inside a comment, the byte after the LF that ends it; or 0, which says nothing.
 pub fn comment_end(draft: &[u8], at: usize) -> usize

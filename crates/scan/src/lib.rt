@@ -4,23 +4,18 @@ ghost use mathlib.Core.Path.{_≡_};
 ghost use Prim.Native.Nat.{_+_, _<_, _≤_};
 ghost use lib.Dec.{eqb};
 ghost use lib.ListN.{length, getD};
-ghost use Rattle.scan.specs.Bytes.{beginsOf, beginsAt};
+ghost use Rattle.runs.specs.Bytes.{beginsOf, beginsAt};
 ghost use Rattle.scan.specs.Found.{pieceOf, Finds};
 ghost use Rattle.scan.specs.Opens.{Known, Stands, Opens, Goes, Ended as EndedBy};
 
-pub mod blank;
-pub mod byte;
 mod comment;
-mod eight;
 mod string;
-mod wide;
-pub mod word;
+mod word;
 
-use byte::is_line;
 use comment::comment_end;
+use runs::byte::is_line;
 use string::string_end;
 use tokens::Token;
-use word::Ended;
 use word::word_end;
 
 // What stands at a place, taken apart: 0 simple, 1 quoted, 2 curly, 3 the last, 4 a refusal, 5 whitespace or a comment, 6 not known. A part
@@ -33,6 +28,12 @@ pub struct Piece {
     pub from: usize,
     pub bytes: usize,
     pub number: u32,
+}
+
+// Where a token's own bytes end, and what stands there: 1 ends it, 2 opens a string, 0 is illegal or not US-ASCII. 3 says nothing.
+pub struct Ended {
+    pub at: usize,
+    pub how: u32,
 }
 
 // What is no refusal.
@@ -215,7 +216,7 @@ pub fn begins_at(draft: &[u8], at: usize) -> u32
     requires { ⌜ at < length (now draft) ⌝ }
     ensures { λ r. ⌜ r ≡ beginsAt (now (draft .entry)) at ⌝ }
 {
-    let begins = byte::begins(draft[at]);
+    let begins = runs::byte::begins(draft[at]);
     if begins == 5 {
         if !is_last(draft, at) {
             return 6;

@@ -6,11 +6,11 @@ ghost use lib.ListN.{length, getD};
 ghost use Rattle.chars.specs.Choice.{if_then_else_};
 ghost use Rattle.scan.specs.Data.{Even, Goes};
 ghost use Rattle.scan.specs.Found.{Closed};
-use crate::byte::is_line;
-use crate::eight::past_plain;
-use crate::wide::Reach;
-use crate::wide::past_wide;
 use chars::limits;
+use runs::byte::is_line;
+use runs::eight::past_plain;
+use runs::wide::Reach;
+use runs::wide::past_wide;
 
 // The byte after the one that closes a string, and how many clean bytes its data has. 0 for the byte says nothing.
 pub struct Data {

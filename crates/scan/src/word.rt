@@ -3,15 +3,10 @@ ghost use mathlib.Core.Path.{_≡_};
 ghost use Prim.Native.Nat.{_-_, _<_, _≤_};
 ghost use lib.ListN.{length};
 ghost use Rattle.scan.specs.Found.{Worded};
-use crate::byte::ends;
-use crate::eight::past_common;
+use crate::Ended;
 use chars::limits;
-
-// Where a token's own bytes end, and what stands there: 1 ends it, 2 opens a string, 0 is illegal or not US-ASCII. 3 says nothing.
-pub struct Ended {
-    pub at: usize,
-    pub how: u32,
-}
+use runs::byte::ends;
+use runs::eight::past_common;
 
 // A token of no more bytes than the limit.
 fn ending(begun: usize, at: usize, how: u32) -> Ended

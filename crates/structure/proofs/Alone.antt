@@ -12,7 +12,7 @@ use Rattle.chars.specs.Limits.{limits}
 use Rattle.chars.proofs.Cases.{either}
 use Rattle.tokens.specs.Sorts.{visible, white, atomic, inclusive}
 use Rattle.tokens.proofs.Table.{implied}
-use Rattle.scan.specs.Bytes.{beginsOf}
+use Rattle.runs.specs.Bytes.{beginsOf}
 use Rattle.entities.specs.Entity.{bare}
 use Rattle.entities.specs.Making.{fitted, handled, regular, judged, judged-last, closing, within-groups, adds}
 use Rattle.entities.specs.Judging.{bares, counting, kindOf}

@@ -16,7 +16,7 @@ use Rattle.chars.specs.Stream.{streamAt, clean}
 use Rattle.tokens.proofs.Clean.{clean-zero}
 use Rattle.tokens.specs.Sorts.{visible, white, atomic, inclusive}
 use Rattle.tokens.specs.Tokens.{quoted, curly}
-use Rattle.scan.specs.Bytes.{beginsOf}
+use Rattle.runs.specs.Bytes.{beginsOf}
 use Rattle.entities.specs.Entity.{Entity}
 use Rattle.entities.specs.Making.{Reader, Handled, makes, fitted, handled, within-groups, shortage}
 use Rattle.entities.specs.Making.{adds, named, word, regular, command, string-kind, literal, closing, judged}

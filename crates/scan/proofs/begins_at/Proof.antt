@@ -1,7 +1,7 @@
 -- `scan::begins_at` meets its contract: the byte tells, and of `|` the byte behind it. Assumes nothing.
 use mathlib.Core.Path.{sym, _∙_}
 use borrow.Author.Tests.{eq-eqb, ne-eqb, not-true, not-false}
-use Rattle.scan.specs.Bytes.{beginsAt}
+use Rattle.runs.specs.Bytes.{beginsAt}
 use borrow.Author.Needs.{needs}
 use Rattle.scan.proofs.begins_at.Statement.{statement}
 use Rattle.scan.proofs.begins_at.Tie as tie

@@ -1,0 +1,6 @@
+pub mod Bytewise
+pub mod Flags
+pub mod Bytes
+pub mod Widths
+pub mod Blanks
+pub mod Unique

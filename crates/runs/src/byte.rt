@@ -1,0 +1,168 @@
+// Sorts of bytes, as Shastina Specification, section 3.1, lists them.
+ghost use mathlib.Core.Path.{_≡_};
+ghost use mathlib.Core.Bool.{true, false};
+ghost use Prim.Native.Nat.{ℕ, _+_, _<_, _≤_};
+ghost use lib.Dec.{eqb};
+ghost use lib.ListN.{length, getD};
+ghost use Rattle.chars.specs.Character.{characterAt};
+ghost use Rattle.chars.specs.declared.Character.the-variants.{Clean};
+ghost use Rattle.tokens.specs.Sorts.{visible as visibleBy, exclusive as exclusiveBy, inclusive as inclusiveBy};
+ghost use Rattle.runs.specs.Bytes.{beginsOf, endsOf};
+
+// Visible US-ASCII.
+fn visible(b: u8) -> bool
+    ensures { λ r. ⌜ r ≡ visibleBy b ⌝ }
+{
+    if b < 0x21 {
+        return false;
+    }
+    b < 0x7F
+}
+
+// Exclusive characters end a token and are left out of it.
+fn exclusive(b: u8) -> bool
+    ensures { λ r. ⌜ r ≡ exclusiveBy b ⌝ }
+{
+    match b {
+        b'\t' | b' ' | b'\n' | b'(' | b')' | b'[' | b']' | b',' | b'%' | b';' | b'#' | b'}' => true,
+        _ => false,
+    }
+}
+
+// Inclusive characters end a token and are part of it.
+fn inclusive(b: u8) -> bool
+    ensures { λ r. ⌜ r ≡ inclusiveBy b ⌝ }
+{
+    match b {
+        b'"' | b'{' => true,
+        _ => false,
+    }
+}
+
+// The characters that begin no word, those below `@` and those from there on: a bit for each.
+const BELOW: u64 = (1u64 << b'"')
+    | (1u64 << b'#')
+    | (1u64 << b'%')
+    | (1u64 << b'(')
+    | (1u64 << b')')
+    | (1u64 << b',')
+    | (1u64 << b';');
+
+const FROM: u64 = (1u64 << (b'[' - b'@'))
+    | (1u64 << (b']' - b'@'))
+    | (1u64 << (b'{' - b'@'))
+    | (1u64 << (b'|' - b'@'))
+    | (1u64 << (b'}' - b'@'));
+
+// Whether a byte begins a word and nothing else. It is told by its bit, since a processor could not guess comparisons: words begin with
+// letters, digits and signs as it comes.
+fn begins_word(b: u8) -> bool
+    ensures { λ r. ⌜ r ≡ eqb (beginsOf b) 6 ⌝ }
+{
+    if b < 0x21 {
+        return false;
+    }
+    if 0x7E < b {
+        return false;
+    }
+    let mut listed = BELOW;
+    if b'@' <= b {
+        listed = FROM;
+    }
+    (listed >> (b & 0x3F)) & 1 == 0
+}
+
+// What a byte begins (specs/Bytes.antt, beginsOf), of those below `-` that begin no word.
+fn low(b: u8) -> u32
+    requires { ⌜ (b < 0x2D) × (eqb (beginsOf b) 6 ≡ false) ⌝ }
+    ensures { λ r. ⌜ r ≡ beginsOf b ⌝ }
+{
+    if b'#' < b {
+        return 3;
+    }
+    if b == b'"' {
+        return 4;
+    }
+    if b == b'#' {
+        return 2;
+    }
+    if b == b' ' {
+        return 1;
+    }
+    if b == b'\n' {
+        return 1;
+    }
+    if b == b'\t' {
+        return 1;
+    }
+    0
+}
+
+// The same of those from `{` on.
+fn high(b: u8) -> u32
+    requires { ⌜ (0x7B ≤ b) × (eqb (beginsOf b) 6 ≡ false) ⌝ }
+    ensures { λ r. ⌜ r ≡ beginsOf b ⌝ }
+{
+    if b == b'{' {
+        return 4;
+    }
+    if b == b'|' {
+        return 5;
+    }
+    if b == b'}' {
+        return 7;
+    }
+    0
+}
+
+// What a byte begins where no token has begun (specs/Bytes.antt, beginsOf). Comparisons stand for a `match`, of which the compiler would
+// make a jump by a table, dearer than any of them.
+pub fn begins(b: u8) -> u32
+    ensures { λ r. ⌜ r ≡ beginsOf b ⌝ }
+{
+    if begins_word(b) {
+        return 6;
+    }
+    if b < b'-' {
+        return low(b);
+    }
+    if b < b'{' {
+        return 3;
+    }
+    high(b)
+}
+
+// What a byte is behind a token's first (specs/Bytes.antt, endsOf). Most tokens are ended by SP or LF.
+pub fn ends(b: u8) -> u32
+    ensures { λ r. ⌜ r ≡ endsOf b ⌝ }
+{
+    if b == b' ' {
+        return 1;
+    }
+    if b == b'\n' {
+        return 1;
+    }
+    if exclusive(b) {
+        return 1;
+    }
+    if inclusive(b) {
+        return 2;
+    }
+    if visible(b) {
+        return 3;
+    }
+    0
+}
+
+// Whether CR at a place has LF right behind it, and so is one LF.
+pub fn is_line(draft: &[u8], at: usize) -> bool
+    requires { ⌜ (at < length (now draft)) × (getD (now draft) at 0 ≡ 0x0D) ⌝ }
+    ensures { λ r. ⌜ (r ≡ true → (at + 2 ≤ length (now (draft .entry))) × (characterAt (now (draft .entry)) at ≡ Clean 0x0A (at + 2)))
+        × (r ≡ false → (number after : ℕ) → characterAt (now (draft .entry)) at ≡ Clean number after → ⊥) ⌝ }
+{
+    let next = at + 1;
+    if draft.len() <= next {
+        return false;
+    }
+    draft[next] == b'\n'
+}
