@@ -12,7 +12,8 @@
  *
  * COUNTS is a file of instruction counts, a line `KIND SIZE READER COUNT` for each, of the first draft of a kind and size. --kinds tells
  * the kinds and sizes, a line for each, and --draft writes such a draft. With --once the draft on standard input is read by one call, of
- * the reader `archive` or `fast`, or with `none` by no call: the difference in what is executed is what the call executes.
+ * the reader a, the archive, or f, fast.c, or with n by no call: the difference in what is executed is what the call executes. The words
+ * are one letter each, since what a program executes before its first line depends on how long its words are.
  */
 #include <stdio.h>
 
@@ -207,11 +208,16 @@ static int once(const char *reader_word)
     static buffers b;
 
     d.len = fread(d.bytes, 1, sizeof d.bytes, stdin);
-    if (strcmp(reader_word, "archive") == 0)
+    switch (reader_word[0]) {
+    case 'n':
+        return 0;
+    case 'a':
         return by_archive(0, d.bytes, d.len, &b).number == 0 ? 0 : 1;
-    if (strcmp(reader_word, "fast") == 0)
+    case 'f':
         return by_fast(0, d.bytes, d.len, &b).number == 0 ? 0 : 1;
-    return strcmp(reader_word, "none") == 0 ? 0 : 2;
+    default:
+        return 2;
+    }
 }
 
 int main(int argc, char **argv)

@@ -21,7 +21,7 @@ pub fn array_begins(s: State) -> Step
 }
 
 // `,`: 15 where the innermost open group is no element.
-pub fn element_ends(list: &mut [u32], groups: &mut [u32], s: State, place: usize) -> Step
+pub fn element_ends(list: &mut [u32], groups: &mut [u16], s: State, place: usize) -> Step
     requires { ⌜ (eqb (s .mode) 2 ≡ false) × (place < 16384) × Steady s (now list) (now groups) place ⌝ }
     ensures { λ r. ⌜ Ruled 0x2C 0 s (now (list .entry)) (now (groups .entry)) place r (now (list .exit)) (now (groups .exit)) ⌝ }
 {
@@ -35,7 +35,7 @@ pub fn element_ends(list: &mut [u32], groups: &mut [u32], s: State, place: usize
 }
 
 // `]`: right behind `[` the count is 0 and there is no group; else 16 where the innermost open group is no element.
-pub fn array_ends(list: &mut [u32], groups: &[u32], s: State, place: usize) -> Step
+pub fn array_ends(list: &mut [u32], groups: &[u16], s: State, place: usize) -> Step
     requires { ⌜ (eqb (s .mode) 2 ≡ false) × (place < 16384) × Steady s (now list) (now groups) place ⌝ }
     ensures { λ r. ⌜ Ruled 0x5D 0 s (now (list .entry)) (now (groups .entry)) place r (now (list .exit)) (now (groups .entry)) ⌝ }
 {
@@ -48,5 +48,5 @@ pub fn array_ends(list: &mut [u32], groups: &[u32], s: State, place: usize) -> S
     if number == 0 {
         return stops(16, s);
     }
-    two(list, s, 8, number, place, depth - 1)
+    two(list, s, 8, number as u32, place, depth - 1)
 }

@@ -34,7 +34,7 @@ pub fn roomless(list: &[u32], brings: bool, entities: usize) -> bool
 }
 
 // Writes it, and answers the state in which the token behind it is written: the group is held and open.
-pub fn begin_group(list: &mut [u32], groups: &mut [u32], s: State, place: usize) -> State
+pub fn begin_group(list: &mut [u32], groups: &mut [u16], s: State, place: usize) -> State
     requires { ⌜ (6 * (s .entities + 1) ≤ length (now list)) × (s .depth < 64) × (length (now groups) ≡ 64) × (place < 2 ^ 32)
         × (s .text < 2 ^ 32) ⌝ }
     ensures { λ r. ⌜ (r ≡ record { mode = 0; depth = s .depth + 1; entities = s .entities + 1; text = s .text })

@@ -13,7 +13,7 @@ use crate::state::Step;
 use chars::limits;
 
 // `(`: 17 over the limit.
-pub fn group_begins(list: &mut [u32], groups: &mut [u32], s: State, place: usize) -> Step
+pub fn group_begins(list: &mut [u32], groups: &mut [u16], s: State, place: usize) -> Step
     requires { ⌜ (eqb (s .mode) 2 ≡ false) × (place < 16384) × Steady s (now list) (now groups) place ⌝ }
     ensures { λ r. ⌜ Ruled 0x28 0 s (now (list .entry)) (now (groups .entry)) place r (now (list .exit)) (now (groups .exit)) ⌝ }
 {
@@ -26,7 +26,7 @@ pub fn group_begins(list: &mut [u32], groups: &mut [u32], s: State, place: usize
 }
 
 // `)`: 14 where the innermost open group is none of its own.
-pub fn group_ends(list: &mut [u32], groups: &mut [u32], s: State, place: usize) -> Step
+pub fn group_ends(list: &mut [u32], groups: &mut [u16], s: State, place: usize) -> Step
     requires { ⌜ (eqb (s .mode) 2 ≡ false) × (place < 16384) × Steady s (now list) (now groups) place ⌝ }
     ensures { λ r. ⌜ Ruled 0x29 0 s (now (list .entry)) (now (groups .entry)) place r (now (list .exit)) (now (groups .exit)) ⌝ }
 {

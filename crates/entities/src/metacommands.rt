@@ -9,7 +9,7 @@ use crate::state::State;
 use crate::state::Step;
 
 // `%` in regular mode.
-pub fn metacommand_begins(list: &mut [u32], groups: &[u32], s: State, place: usize) -> Step
+pub fn metacommand_begins(list: &mut [u32], groups: &[u16], s: State, place: usize) -> Step
     requires { ⌜ (eqb (s .mode) 2 ≡ false) × (place < 16384) × Steady s (now list) (now groups) place ⌝ }
     ensures { λ r. ⌜ Ruled 0x25 0 s (now (list .entry)) (now (groups .entry)) place r (now (list .exit)) (now (groups .entry)) ⌝ }
 {
@@ -18,7 +18,7 @@ pub fn metacommand_begins(list: &mut [u32], groups: &[u32], s: State, place: usi
 }
 
 // `;` in a metacommand.
-pub fn metacommand_ends(list: &mut [u32], groups: &[u32], s: State, place: usize) -> Step
+pub fn metacommand_ends(list: &mut [u32], groups: &[u16], s: State, place: usize) -> Step
     requires { ⌜ (s .mode ≡ 2) × (place < 16384) × Steady s (now list) (now groups) place ⌝ }
     ensures { λ r. ⌜ Ruled 0x3B 0 s (now (list .entry)) (now (groups .entry)) place r (now (list .exit)) (now (groups .entry)) ⌝ }
 {

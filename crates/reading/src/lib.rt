@@ -53,7 +53,7 @@ fn told(number: usize, place: usize, s: State, consumed: usize) -> Answer
 }
 
 // The tokens of a draft, one after another, with an array for the open groups.
-fn walk(draft: &[u8], list: &mut [u32], text: &mut [u8], groups: &mut [u32]) -> Answer
+fn walk(draft: &[u8], list: &mut [u32], text: &mut [u8], groups: &mut [u16]) -> Answer
     requires { ⌜ (length (now draft) ≤ 16384) × (length (now groups) ≡ 64) ⌝ }
     ensures { λ r. ⌜ r ≡ readingOf base (now (draft .entry)) (now (list .entry)) (now (text .entry)) .answer ⌝ }
     ensures { λ _. ⌜ now (list .exit) ≡ readingOf base (now (draft .entry)) (now (list .entry)) (now (text .entry)) .list ⌝ }
@@ -96,7 +96,7 @@ pub fn read(draft: &[u8], list: &mut [u32], text: &mut [u8]) -> Answer
             cells: 0,
         };
     }
-    let mut groups = [0u32; 64];
-    let view: &mut [u32] = &mut groups;
+    let mut groups = [0u16; 64];
+    let view: &mut [u16] = &mut groups;
     walk(draft, list, text, view)
 }

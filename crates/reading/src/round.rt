@@ -88,7 +88,7 @@ fn piece(
     draft: &[u8],
     list: &mut [u32],
     text: &mut [u8],
-    groups: &mut [u32],
+    groups: &mut [u16],
     s: State,
     at: usize,
     begins: u32,
@@ -122,7 +122,7 @@ pub fn go_round(
     draft: &[u8],
     list: &mut [u32],
     text: &mut [u8],
-    groups: &mut [u32],
+    groups: &mut [u16],
     s: State,
     at: usize,
 ) -> Round

@@ -13,7 +13,7 @@ use entities::brought::roomless;
 use entities::state::State;
 use entities::state::Step;
 
-pub fn last(list: &mut [u32], groups: &[u32], s: State, place: usize) -> Step
+pub fn last(list: &mut [u32], groups: &[u16], s: State, place: usize) -> Step
     requires { ⌜ (place < 16384) × Steady s (now list) (now groups) place ⌝ }
     ensures { λ r. ⌜ ((text : List ℕ) → Ready s (now (list .entry)) text (now (groups .entry)) place
         → agrees (handled base (roomLeft s (now (list .entry)) text) (readerOf s (now (groups .entry))) false place

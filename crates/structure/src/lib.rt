@@ -25,7 +25,7 @@ use entities::state::State;
 use entities::state::Step;
 
 // The token `c` by its own rules: `;` is 11.
-fn ruled(list: &mut [u32], groups: &mut [u32], s: State, c: u8, place: usize) -> Step
+fn ruled(list: &mut [u32], groups: &mut [u16], s: State, c: u8, place: usize) -> Step
     requires { ⌜ (structural c ≡ true) × (eqb (s .mode) 2 ≡ false) × (place < 16384) × Steady s (now list) (now groups) place ⌝ }
     ensures { λ r. ⌜ Ruled c 0 s (now (list .entry)) (now (groups .entry)) place r (now (list .exit)) (now (groups .exit)) ⌝ }
 {
@@ -94,7 +94,7 @@ fn own(c: u8) -> usize
 
 // Before the token `c` is ruled: where it brings a begin group, all that can refuse it is asked, 17 and 18 for the group first, and then
 // the group is written. So its own rules have one way, whether it brings one or not.
-fn led(list: &mut [u32], groups: &mut [u32], s: State, c: u8, place: usize) -> Step
+fn led(list: &mut [u32], groups: &mut [u16], s: State, c: u8, place: usize) -> Step
     requires { ⌜ (structural c ≡ true) × (eqb (s .mode) 2 ≡ false) × (place < 16384) × Steady s (now list) (now groups) place ⌝ }
     ensures { λ r. ⌜ Led c s (now (list .entry)) (now (groups .entry)) place r (now (list .exit)) (now (groups .exit)) ⌝ }
 {
@@ -125,7 +125,7 @@ fn led(list: &mut [u32], groups: &mut [u32], s: State, c: u8, place: usize) -> S
 }
 
 // The token `c`.
-pub fn structure(list: &mut [u32], groups: &mut [u32], s: State, c: u8, place: usize) -> Step
+pub fn structure(list: &mut [u32], groups: &mut [u16], s: State, c: u8, place: usize) -> Step
     requires { ⌜ (structural c ≡ true) × (eqb (s .mode) 2 ≡ false) × (place < 16384) × Steady s (now list) (now groups) place ⌝ }
     ensures { λ r. ⌜ ((T text : List ℕ) → getD T 0 0 ≡ c → Ready s (now (list .entry)) text (now (groups .entry)) place
         → agrees (handled base (roomLeft s (now (list .entry)) text) (readerOf s (now (groups .entry))) (closingAs 0 T) place

@@ -98,7 +98,7 @@ fn sign(kind: u32) -> usize
 fn room(
     list: &mut [u32],
     text: &[u8],
-    groups: &mut [u32],
+    groups: &mut [u16],
     s: State,
     place: usize,
     size: usize,
@@ -140,7 +140,7 @@ pub fn take(
     draft: &[u8],
     list: &mut [u32],
     text: &mut [u8],
-    groups: &mut [u32],
+    groups: &mut [u16],
     s: State,
     p: Piece,
 ) -> Step
@@ -193,7 +193,7 @@ pub fn take_word(
     draft: &[u8],
     list: &mut [u32],
     text: &mut [u8],
-    groups: &mut [u32],
+    groups: &mut [u16],
     s: State,
     c: u8,
     place: usize,

@@ -32,6 +32,9 @@ returns-2 c =
     closes-refused (a .s) (a .list .now) (a .groups .now) (a .place) (c .stops .result) (a .list .now) (p .2) (p .0)
     (after-top .result) (c .before .before .before .if1 .left) (after-top .ensures) (c .before .if2 .taken) (c .stops .ensures)
 
+cast-two : tie.Need-cast-two
+cast-two c = search needs
+
 sub-two : tie.Need-sub-two
 sub-two c =
     let a = c .before .before .before .before .before .before .args in
@@ -63,6 +66,7 @@ array-ends-spec =
     top-requires
     stops-requires
     returns-2
+    cast-two
     sub-two
     two-requires
     same-length-2
