@@ -24,6 +24,12 @@ const kind kinds[KINDS] = {
     {"groups", "deep groups", put_groups, BAR, 0},
     {"tabs", "tabs", put_tabbed, BAR, 0},
     {"pictures", "pictures in strings", put_picture, BAR, 0},
+    {"indented", "indented words", put_indented, BAR, 0},
+    {"operators", "signs as words", put_operator, BAR, 0},
+    {"names", "short names with their signs", put_name, BAR, 0},
+    {"prefixed", "strings with a prefix", put_prefixed, BAR, 0},
+    {"accented", "letters of two bytes in strings", put_accented, BAR, 0},
+    {"short-comments", "short comments", put_short_comment, BAR, 0},
     {"23", "a draft of 23 bytes", put_23_bytes, BAR, 23},
 };
 

@@ -113,6 +113,38 @@ void put_short_string(making *m)
     put_space(m);
 }
 
+void put_prefixed(making *m)
+{
+    const bool curly = one_in(&m->l, 2);
+
+    put_letters(m, 1 + below(&m->l, 4));
+    put_opening(m, curly);
+    put_letters(m, below(&m->l, 8));
+    put_closing(m, curly);
+    put_space(m);
+}
+
+/* Letters, and now and then one of two bytes. */
+void put_accented(making *m)
+{
+    const bool curly = one_in(&m->l, 2);
+
+    put_opening(m, curly);
+    for (size_t left = 1 + below(&m->l, 4); left > 0; left--) {
+        put_letters(m, 1 + below(&m->l, 5));
+        put_character(m->d, 0xE0 + (uint32_t)below(&m->l, 0x20));
+    }
+    put_closing(m, curly);
+    put_space(m);
+}
+
+void put_short_comment(making *m)
+{
+    put_byte(m->d, '#');
+    put_letters(m, below(&m->l, 6));
+    put_byte(m->d, '\n');
+}
+
 /* An escape has two bytes, so that none is taken for a part of the next one. */
 void put_escapes(making *m)
 {

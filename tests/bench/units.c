@@ -21,6 +21,32 @@ void put_one_letter(making *m)
     put_space(m);
 }
 
+void put_name(making *m)
+{
+    static const char signs[] = "?@=:";
+
+    put_byte(m->d, (unsigned char)signs[below(&m->l, sizeof signs - 1)]);
+    put_letters(m, 1 + below(&m->l, 2));
+    put_space(m);
+}
+
+/* One sign or two. */
+void put_operator(making *m)
+{
+    static const char signs[] = "+-*/<>=!&^~.$_";
+
+    for (size_t left = one_in(&m->l, 3) ? 2 : 1; left > 0; left--)
+        put_byte(m->d, (unsigned char)signs[below(&m->l, sizeof signs - 1)]);
+    put_space(m);
+}
+
+void put_indented(making *m)
+{
+    put_many(m->d, ' ', 4 * below(&m->l, 8));
+    put_letters(m, 1 + below(&m->l, 8));
+    put_byte(m->d, '\n');
+}
+
 void put_array(making *m, const char *behind_comma)
 {
     const size_t len = 1 + below(&m->l, 9);
