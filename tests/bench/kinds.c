@@ -26,7 +26,7 @@ const kind kinds[KINDS] = {
     {"pictures", "pictures in strings", put_picture, BAR, 0},
     {"indented", "indented words", put_indented, BAR, 0},
     {"operators", "signs as words", put_operator, BAR, 0},
-    {"names", "short names with their signs", put_name, BAR, 0},
+    {"names", "short names with their signs", put_signed_name, BAR, 0},
     {"prefixed", "strings with a prefix", put_prefixed, BAR, 0},
     {"accented", "letters of two bytes in strings", put_accented, BAR, 0},
     {"short-comments", "short comments", put_short_comment, BAR, 0},

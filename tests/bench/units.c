@@ -21,7 +21,7 @@ void put_one_letter(making *m)
     put_space(m);
 }
 
-void put_name(making *m)
+void put_signed_name(making *m)
 {
     static const char signs[] = "?@=:";
 
