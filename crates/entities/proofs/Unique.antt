@@ -78,6 +78,14 @@ agreed-bare h a b s list text l t g m u k place p q =
     let alike = agreed h a b s list text l t g m u k place p q in
     (alike .0, alike .1)
 
+-- and of one whose byte tells its rules
+by-its-rules :
+    (c : ℕ) (s : State) (list groups text : List ℕ) (place : ℕ) (a b : Step) (l g m k : List ℕ) → Ready s list text groups place
+    → Ruled c 0 s list groups place a l g → Ruled c 0 s list groups place b m k → Same (took a) (took b) × (l ≡ m)
+unfolding Ruled
+by-its-rules c s list groups text place a b l g m k ready p q =
+    agreed-bare _ (took a) (took b) _ _ _ _ _ _ _ _ _ _ (p (c ∷ []) text refl ready) (q (c ∷ []) text refl ready)
+
 -- These ask for what is held so far, and their contracts speak of any text buffer that it fits: with one there are no two answers.
 pub metacommand-begins :
     (κs : Lfts 2) (given : Dens κs fn.metacommands.metacommand_begins.Kinds.ps) (a b : Step)
@@ -85,9 +93,7 @@ pub metacommand-begins :
     → Ready (given .1 .1 .0) (given .0 .now) text (given .1 .0 .now) (given .1 .1 .1 .0)
     → fn.metacommands.metacommand_begins.Reads.Post κs given a x → fn.metacommands.metacommand_begins.Reads.Post κs given b y
     → Same (took a) (took b) × (x .0 .now ≡ y .0 .now)
-unfolding Ruled
-metacommand-begins κs given a b x y text ready p q =
-    agreed-bare _ (took a) (took b) _ _ _ _ _ _ _ _ _ _ (p (0x25 ∷ []) text refl ready) (q (0x25 ∷ []) text refl ready)
+metacommand-begins κs given a b x y text ready p q = by-its-rules 0x25 _ _ _ text _ a b _ _ _ _ ready p q
 
 pub metacommand-ends :
     (κs : Lfts 2) (given : Dens κs fn.metacommands.metacommand_ends.Kinds.ps) (a b : Step)
@@ -95,9 +101,7 @@ pub metacommand-ends :
     → Ready (given .1 .1 .0) (given .0 .now) text (given .1 .0 .now) (given .1 .1 .1 .0)
     → fn.metacommands.metacommand_ends.Reads.Post κs given a x → fn.metacommands.metacommand_ends.Reads.Post κs given b y
     → Same (took a) (took b) × (x .0 .now ≡ y .0 .now)
-unfolding Ruled
-metacommand-ends κs given a b x y text ready p q =
-    agreed-bare _ (took a) (took b) _ _ _ _ _ _ _ _ _ _ (p (0x3B ∷ []) text refl ready) (q (0x3B ∷ []) text refl ready)
+metacommand-ends κs given a b x y text ready p q = by-its-rules 0x3B _ _ _ text _ a b _ _ _ _ ready p q
 
 pub group-begins :
     (κs : Lfts 2) (given : Dens κs fn.groups.group_begins.Kinds.ps) (a b : Step)
@@ -105,9 +109,7 @@ pub group-begins :
     → Ready (given .1 .1 .0) (given .0 .now) text (given .1 .0 .now) (given .1 .1 .1 .0)
     → fn.groups.group_begins.Reads.Post κs given a x → fn.groups.group_begins.Reads.Post κs given b y
     → Same (took a) (took b) × (x .0 .now ≡ y .0 .now)
-unfolding Ruled
-group-begins κs given a b x y text ready p q =
-    agreed-bare _ (took a) (took b) _ _ _ _ _ _ _ _ _ _ (p (0x28 ∷ []) text refl ready) (q (0x28 ∷ []) text refl ready)
+group-begins κs given a b x y text ready p q = by-its-rules 0x28 _ _ _ text _ a b _ _ _ _ ready p q
 
 pub group-ends :
     (κs : Lfts 2) (given : Dens κs fn.groups.group_ends.Kinds.ps) (a b : Step)
@@ -115,9 +117,7 @@ pub group-ends :
     → Ready (given .1 .1 .0) (given .0 .now) text (given .1 .0 .now) (given .1 .1 .1 .0)
     → fn.groups.group_ends.Reads.Post κs given a x → fn.groups.group_ends.Reads.Post κs given b y
     → Same (took a) (took b) × (x .0 .now ≡ y .0 .now)
-unfolding Ruled
-group-ends κs given a b x y text ready p q =
-    agreed-bare _ (took a) (took b) _ _ _ _ _ _ _ _ _ _ (p (0x29 ∷ []) text refl ready) (q (0x29 ∷ []) text refl ready)
+group-ends κs given a b x y text ready p q = by-its-rules 0x29 _ _ _ text _ a b _ _ _ _ ready p q
 
 pub element-ends :
     (κs : Lfts 2) (given : Dens κs fn.arrays.element_ends.Kinds.ps) (a b : Step)
@@ -125,9 +125,7 @@ pub element-ends :
     → Ready (given .1 .1 .0) (given .0 .now) text (given .1 .0 .now) (given .1 .1 .1 .0)
     → fn.arrays.element_ends.Reads.Post κs given a x → fn.arrays.element_ends.Reads.Post κs given b y
     → Same (took a) (took b) × (x .0 .now ≡ y .0 .now)
-unfolding Ruled
-element-ends κs given a b x y text ready p q =
-    agreed-bare _ (took a) (took b) _ _ _ _ _ _ _ _ _ _ (p (0x2C ∷ []) text refl ready) (q (0x2C ∷ []) text refl ready)
+element-ends κs given a b x y text ready p q = by-its-rules 0x2C _ _ _ text _ a b _ _ _ _ ready p q
 
 pub array-ends :
     (κs : Lfts 2) (given : Dens κs fn.arrays.array_ends.Kinds.ps) (a b : Step)
@@ -135,6 +133,4 @@ pub array-ends :
     → Ready (given .1 .1 .0) (given .0 .now) text (given .1 .0 .now) (given .1 .1 .1 .0)
     → fn.arrays.array_ends.Reads.Post κs given a x → fn.arrays.array_ends.Reads.Post κs given b y
     → Same (took a) (took b) × (x .0 .now ≡ y .0 .now)
-unfolding Ruled
-array-ends κs given a b x y text ready p q =
-    agreed-bare _ (took a) (took b) _ _ _ _ _ _ _ _ _ _ (p (0x5D ∷ []) text refl ready) (q (0x5D ∷ []) text refl ready)
+array-ends κs given a b x y text ready p q = by-its-rules 0x5D _ _ _ text _ a b _ _ _ _ ready p q

@@ -6,7 +6,8 @@ use Prim.Native.Nat.{ℕ, zero, suc, _+_, _-_, _/_, _<_, _≤_}
 use native.Mathlib.Omega.{arith}
 use native.Mathlib.Numerals.{add-one, add-two, add-three, add-four, add-five, add-six, add-seven}
 use lib.ListN.{length, getD, take, drop, set}
-use lib.Seq.{sets-eq, length-take-le, take-append-le, drop-append-add, take-take, take-add, drop-drop, drop-cons, getD-drop, set-set, paste-suc}
+use lib.Seq.{sets-eq, length-take-le, take-append-le, drop-append-add, take-take, take-add, drop-drop, drop-cons, getD-drop, set-set}
+use lib.Seq.{paste-suc}
 
 -- six stores
 pub six :

@@ -1,5 +1,5 @@
--- `runs::byte::high` meets its contract: antt computes the definition at each byte that is told alone, and at every other one that begins no
--- word. Assumes nothing.
+-- `runs::byte::high` meets its contract: antt computes the definition at each byte that is told alone, and at every other one that begins
+-- no word. Assumes nothing.
 use mathlib.Core.Path.{refl, sym, ap}
 use mathlib.Core.List.{_∷_, []}
 use native.Mathlib.Omega.{arith}
