@@ -48,36 +48,42 @@ module _ (draft : List ℕ) (from n : ℕ) (before : List ℕ) where
       let all : n - 0 ≡ n = omega arith in
       record { so-far = rw all; rest = refl; long = refl; within = omega arith; fits = h }
 
+  -- the next clean bytes, up to a place
+  pub advance-by :
+      (out : List ℕ) (i k after : ℕ) (bytes : List ℕ) → Copying out i k
+      → clean (n - k) (streamAt draft i) ≡ bytes ++ clean (n - k - length bytes) (streamAt draft after) → length bytes ≤ n - k
+      → (out′ : List ℕ) → out′ ≡ (take k out ++ bytes) ++ drop (k + length bytes) out → Copying out′ after (k + length bytes)
+  advance-by out i k after bytes c e h out′ is =
+      let size = length bytes in
+      let front : length (take k out) ≡ k = length-take-le k out (omega (arith, c .long, c .within, c .fits)) in
+      let both : length (take k out ++ bytes) ≡ k + size = length-append (take k out) bytes ∙ ap (λ j. j + size) front in
+      let less : n - k - size ≡ n - (k + size) = omega arith in
+      record {
+        so-far =
+            ap (λ l. l ++ clean (n - (k + size)) (streamAt draft after)) (ap (take (k + size)) is ∙ take-at (take k out ++ bytes) _
+            (k + size) both)
+            ∙ (append-assoc (take k out) bytes _
+            ∙ (ap (λ m. take k out ++ (bytes ++ clean m (streamAt draft after))) (sym less)
+            ∙ (ap (λ l. take k out ++ l) (sym e) ∙ c .so-far)));
+        rest =
+            ap (drop (k + size)) is
+            ∙ (drop-at (take k out ++ bytes) _ (k + size) both
+            ∙ (sym (drop-drop size k out) ∙ (ap (drop size) (c .rest) ∙ drop-drop size k before)));
+        long =
+            ap length is
+            ∙ (length-append (take k out ++ bytes) _
+            ∙ omega (arith, both, length-drop (k + size) out, c .long, c .within, c .fits));
+        within = omega arith;
+        fits = c .fits;
+      }
+
   -- one character more
   pub advance :
       (out : List ℕ) (i k number after : ℕ) → Copying out i k → characterAt draft i ≡ Clean number after
       → length (encoded number) ≤ n - k → (out′ : List ℕ)
       → out′ ≡ (take k out ++ encoded number) ++ drop (k + length (encoded number)) out
       → Copying out′ after (k + length (encoded number))
-  advance out i k number after c e h out′ is =
-      let size = length (encoded number) in
-      let front : length (take k out) ≡ k = length-take-le k out (omega (arith, c .long, c .within, c .fits)) in
-      let both : length (take k out ++ encoded number) ≡ k + size = length-append (take k out) (encoded number)
-      ∙ ap (λ j. j + size) front in
-      let less : n - k - size ≡ n - (k + size) = omega arith in
-      record {
-        so-far =
-            ap (λ l. l ++ clean (n - (k + size)) (streamAt draft after)) (ap (take (k + size)) is ∙ take-at (take k out ++ encoded number) _
-            (k + size) both)
-            ∙ (append-assoc (take k out) (encoded number) _
-            ∙ (ap (λ m. take k out ++ (encoded number ++ clean m (streamAt draft after))) (sym less)
-            ∙ (ap (λ l. take k out ++ l) (sym (clean-next draft i (n - k) number after e h)) ∙ c .so-far)));
-        rest =
-            ap (drop (k + size)) is
-            ∙ (drop-at (take k out ++ encoded number) _ (k + size) both
-            ∙ (sym (drop-drop size k out) ∙ (ap (drop size) (c .rest) ∙ drop-drop size k before)));
-        long =
-            ap length is
-            ∙ (length-append (take k out ++ encoded number) _
-            ∙ omega (arith, both, length-drop (k + size) out, c .long, c .within, c .fits));
-        within = omega arith;
-        fits = c .fits;
-      }
+  advance out i k number after c e h = advance-by out i k after (encoded number) c (clean-next draft i (n - k) number after e h) h
 
   -- nothing more is to be copied
   pub finished :

@@ -7,7 +7,7 @@ ghost use Rattle.chars.specs.Stream.{streamAt, clean};
 ghost use Rattle.holding.specs.Text.{unchanged};
 use crate::copy::long;
 use crate::copy::short;
-use copying::copy;
+use crate::lines::lines;
 
 // Bytes of the draft as they are behind the first `used` bytes of the text buffer, whose unused rest is lent on.
 pub fn as_it_stands(draft: &[u8], from: usize, n: usize, text: &mut [u8], used: usize)
@@ -18,8 +18,8 @@ pub fn as_it_stands(draft: &[u8], from: usize, n: usize, text: &mut [u8], used: 
     short(draft, from, n, &mut text[used..]);
 }
 
-// Clean bytes behind the first `used` of the text buffer, whose unused rest is lent to the copier. They take `raw` bytes of the draft:
-// where these are as many, they are the draft's own, and need no cleaning.
+// Clean bytes behind the first `used` of the text buffer, whose unused rest is lent on. They take `raw` bytes of the draft: where these are
+// as many, they are the draft's own, and need no cleaning.
 pub fn fill(draft: &[u8], from: usize, n: usize, raw: usize, text: &mut [u8], used: usize)
     requires { ⌜ (used + n ≤ length (now text)) × (length (clean n (streamAt (now draft) from)) ≡ n) × unchanged (now draft) from n raw ⌝ }
     ensures { λ r. ⌜ now (text .exit) ≡ take used (now (text .entry)) ++ (clean n (streamAt (now (draft .entry)) from) ++ drop (used + n)
@@ -28,6 +28,6 @@ pub fn fill(draft: &[u8], from: usize, n: usize, raw: usize, text: &mut [u8], us
     if raw == n {
         long(draft, from, n, &mut text[used..]);
     } else {
-        copy(draft, from, n, &mut text[used..]);
+        lines(draft, from, n, &mut text[used..]);
     }
 }

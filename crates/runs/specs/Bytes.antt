@@ -58,6 +58,10 @@ plain curly b =
     if curly then within 0x20 0x5A b || within 0x60 0x7A b
     else within 0x20 0x7F b && (not (eqb b 0x22) && not (eqb b 0x5C))
 
+-- what cleaning leaves as it is wherever it stands in well-formed text: all but CR, and ED, with which surrogates begin
+unfoldable pub settled : (b : ℕ) → Bool
+settled b = not (eqb b 0x0D) && not (eqb b 0xED)
+
 -- Of eight bytes as one number, `flags` has a byte of 0 only where a byte of `w` passes a test.
 abbrev pub Flags : (test : ℕ → Bool) → (w flags : ℕ) → Type 0
 Flags test w flags =

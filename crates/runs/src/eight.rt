@@ -59,7 +59,7 @@ fn plain_flags(w: u64, curly: bool) -> u64
 }
 
 // How many bytes stand before the first flag.
-fn before_flag(flags: u64) -> usize
+pub fn before_flag(flags: u64) -> usize
     ensures { λ r. ⌜ (r ≤ 8) × ((i : ℕ) → i < r → getD (bytesOf 8 flags) i 0 ≡ 0) ⌝ }
 {
     let bits = u64::trailing_zeros(flags);

@@ -3,4 +3,5 @@
 pub mod blank;
 pub mod byte;
 pub mod eight;
+pub mod settled;
 pub mod wide;

@@ -1,10 +1,10 @@
 -- `holding::text::fill` meets its contract: the part that is lent comes back filled, with the draft's own bytes where the clean ones are
--- these, and else by the copier's promise. Assumes nothing.
+-- these, and else by the promise of `lines`. Assumes nothing.
 use mathlib.Core.Path.{_∙_, ap}
 use native.Mathlib.Omega.{arith}
 use lib.ListN.{length, take, drop, length-take}
 use Rattle.chars.specs.Stream.{streamAt, clean}
-use Rattle.holding.proofs.Filling.{copied-front, part-filled}
+use Rattle.holding.proofs.Filling.{part-filled}
 use borrow.Author.Needs.{needs}
 use Rattle.holding.proofs.text.fill.Statement.{statement}
 use Rattle.holding.proofs.text.fill.Tie as tie
@@ -24,17 +24,17 @@ long-requires c κs =
     let p = c .before .before .before .before .pre in
     (omega (arith, ap length (p .2 (c .before .if1 .taken)), p .1, length-take (a .n) (drop (a .from) (a .draft .now))), search needs)
 
-sub-copy : tie.Need-sub-copy
-sub-copy c = search needs
+sub-lines : tie.Need-sub-lines
+sub-lines c = search needs
 
-part-copy-start : tie.Need-part-copy-start
-part-copy-start c = search needs
+part-lines-start : tie.Need-part-lines-start
+part-lines-start c = search needs
 
-part-copy-end : tie.Need-part-copy-end
-part-copy-end c = search needs
+part-lines-end : tie.Need-part-lines-end
+part-lines-end c = search needs
 
-copy-requires : tie.Need-copy-requires
-copy-requires c κs = search needs
+lines-requires : tie.Need-lines-requires
+lines-requires c κs = search needs
 
 same-length : tie.Need-same-length
 same-length c = search needs
@@ -54,8 +54,7 @@ returns-2 c =
     let a = c .before .before .before .before .before .before .before .args in
     let p = c .before .before .before .before .before .before .before .pre in
     part-filled (clean (a .n) (streamAt (a .draft .now) (a .from))) (a .n) (a .text .now) (a .used)
-    (c .before .before .copy .last .1 .1 .1 .0) (p .0)
-    (c .before .before .copy .ensures .1 ∙ copied-front (a .draft .now) (a .from) (a .n) _ (search needs) (p .1))
+    (c .before .before .lines .last .1 .1 .1 .0) (p .0) (c .before .before .lines .ensures)
 
 pub fill-spec : {M : Type 1} → statement M
 fill-spec =
@@ -65,10 +64,10 @@ fill-spec =
     part-long-start
     part-long-end
     long-requires
-    sub-copy
-    part-copy-start
-    part-copy-end
-    copy-requires
+    sub-lines
+    part-lines-start
+    part-lines-end
+    lines-requires
     same-length
     returns
     same-length-2

@@ -1,0 +1,36 @@
+// Clean data that is not the draft's own bytes: CR LF is one LF, and a surrogate pair is re-encoded.
+ghost use mathlib.Core.Path.{_≡_};
+ghost use mathlib.Core.List.{_++_};
+ghost use Prim.Native.Nat.{_≤_};
+ghost use lib.ListN.{length, drop};
+ghost use Rattle.chars.specs.Stream.{streamAt, clean};
+use crate::copy::long;
+use copying::copy;
+use runs::settled::past_settled;
+
+// Clean bytes to the front of a part. What stands before the next CR or ED is copied as it stands; CR is left out, since its LF follows; and
+// from ED on, which may begin a surrogate, the rest of the part is lent to the copier.
+pub fn lines(draft: &[u8], from: usize, n: usize, out: &mut [u8])
+    requires { ⌜ (n ≤ length (now out)) × (length (clean n (streamAt (now draft) from)) ≡ n) ⌝ }
+    ensures { λ r. ⌜ now (out .exit) ≡ clean n (streamAt (now (draft .entry)) from) ++ drop n (now (out .entry)) ⌝ }
+{
+    if n == 0 {
+        return;
+    }
+    let mut i = from;
+    let mut k: usize = 0;
+    loop {
+        let r = past_settled(draft, i, i + (n - k));
+        let m = r - i;
+        long(draft, i, m, &mut out[k..]);
+        k += m;
+        if k == n {
+            return;
+        }
+        if draft[r] != 0x0D {
+            copy(draft, r, n - k, &mut out[k..]);
+            return;
+        }
+        i = r + 1;
+    }
+}
