@@ -72,7 +72,8 @@ fn begins_word(b: u8) -> bool
     (listed >> (b & 0x3F)) & 1 == 0
 }
 
-// What a byte begins (specs/Bytes.antt, beginsOf), of those below `-` that begin no word.
+// What a byte begins (specs/Bytes.antt, beginsOf), of those below `-` that begin no word. `"` is told by a range,
+// since of one equality more the compiler would make a jump by a table.
 fn low(b: u8) -> u32
     requires { ⌜ (b < 0x2D) × (eqb (beginsOf b) 6 ≡ false) ⌝ }
     ensures { λ r. ⌜ r ≡ beginsOf b ⌝ }
@@ -80,11 +81,12 @@ fn low(b: u8) -> u32
     if b'#' < b {
         return 3;
     }
-    if b == b'"' {
-        return 4;
-    }
     if b == b'#' {
         return 2;
+    }
+    // Of `!` and `"`, `!` begins a word.
+    if b' ' < b {
+        return 4;
     }
     if b == b' ' {
         return 1;

@@ -21,7 +21,9 @@ returns-2 c = ap beginsOf (sym (c .if2 .taken))
 
 returns-3 : tie.Need-returns-3
 unfolding beginsOf visible white atomic inclusive
-returns-3 c = ap beginsOf (sym (c .if3 .taken))
+returns-3 c =
+    but-for-words 4 0x21 0x23 (0x23 ∷ []) refl (c .before .before .before .args .b) (search needs) (omega arith) (omega arith)
+    (c .before .if2 .left, tt) (c .before .before .before .pre .1)
 
 returns-4 : tie.Need-returns-4
 unfolding beginsOf visible white atomic inclusive
@@ -38,11 +40,8 @@ returns-6 c = ap beginsOf (sym (c .if6 .taken))
 returns-7 : tie.Need-returns-7
 unfolding beginsOf visible white atomic inclusive
 returns-7 c =
-    but-for-words 0 0 0x23 (0x22 ∷ 0x23 ∷ 0x20 ∷ 0x0A ∷ 0x09 ∷ []) refl
-    (c .before .before .before .before .before .before .args .b) (search needs) (omega arith) (omega arith) (
-      c .before .before .before .before .if2 .left,
-      (c .before .before .before .if3 .left, (c .before .before .if4 .left, (c .before .if5 .left, (c .if6 .left, tt)))),
-    )
+    but-for-words 0 0 0x20 (0x20 ∷ 0x0A ∷ 0x09 ∷ []) refl (c .before .before .before .before .before .before .args .b) (search needs)
+    (omega arith) (omega arith) (c .before .before .if4 .left, (c .before .if5 .left, (c .if6 .left, tt)))
     (c .before .before .before .before .before .before .pre .1)
 
 pub low-spec : {M : Type 1} → statement M
