@@ -43,9 +43,9 @@ endsOf b =
     else if visible b then 3
     else 0
 
--- what words are mostly made of: letters, digits and - . / : @ `
+-- what words are mostly made of: letters, digits and - . / : @ _ `
 unfoldable pub common : (b : ℕ) → Bool
-common b = within 0x2D 0x3A b || (within 0x40 0x5A b || within 0x60 0x7A b)
+common b = within 0x2D 0x3A b || (within 0x40 0x5A b || within 0x5F 0x7A b)
 
 -- what comments are mostly made of: SP, visible characters and DEL
 unfoldable pub remark : (b : ℕ) → Bool

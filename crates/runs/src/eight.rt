@@ -8,14 +8,16 @@ ghost use Rattle.tokens.specs.Runs.{bytesOf};
 ghost use Rattle.runs.specs.Bytes.{common, remark, plain, Flags, Passed};
 use tokens::number::eight;
 
-// A flag for each byte that words are not mostly made of: below `-`, and of the last five of each thirty-two, `;` to `?`, `[` to `_` and
-// from `{` on.
+// A flag for each byte that words are not mostly made of: below `-`, of the last five of each thirty-two, `;` to `?`, `[` to `_` and from
+// `{` on, but for `_`, and what is not US-ASCII.
 fn word_flags(w: u64) -> u64
     ensures { λ r. ⌜ Flags common w r ⌝ }
 {
-    let low = (w & 0x7F7F7F7F7F7F7F7F) + 0x5353535353535353;
+    let x = w & 0x7F7F7F7F7F7F7F7F;
+    let low = x + 0x5353535353535353;
     let high = (w & 0x1F1F1F1F1F1F1F1F) + 0x6565656565656565;
-    (w | (low ^ 0x8080808080808080) | high) & 0x8080808080808080
+    let other = (x ^ 0x5F5F5F5F5F5F5F5F) + 0x7F7F7F7F7F7F7F7F;
+    (w | (low ^ 0x8080808080808080) | (high & other)) & 0x8080808080808080
 }
 
 // A flag for each control character and each byte that is not US-ASCII.
@@ -66,7 +68,7 @@ pub fn before_flag(flags: u64) -> usize
     (bits / 8) as usize
 }
 
-// Whether words are mostly made of a byte; not of all such bytes, capitals are left out.
+// Whether words are mostly made of a byte; not of all such bytes, `@`, capitals and `_` are left out.
 fn usual(b: u8) -> bool
     ensures { λ r. ⌜ (r ≡ true → common b ≡ true) ⌝ }
 {

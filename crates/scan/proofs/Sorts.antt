@@ -108,7 +108,7 @@ common-plain b t =
     (λ u. omega (arith, within-true 0x2D 0x3A b u .1))
     (λ u. either (within 0x40 0x5A b)
     (λ v. omega (arith, within-true 0x40 0x5A b v .1))
-    (λ v. omega (arith, within-true 0x60 0x7A b (rw (u, v) at t) .1))) in
+    (λ v. omega (arith, within-true 0x5F 0x7A b (rw (u, v) at t) .1))) in
     within-true 3 4 (classOf b) (implied common (λ j. within 3 4 (classOf j)) 0x80 refl b low t)
 
 pub ends-plain : (b : ℕ) → endsOf b ≡ 3 → (3 ≤ classOf b) × (classOf b ≤ 4)
