@@ -1,15 +1,15 @@
 -- Characters above US-ASCII where they stand in a draft. By the grammar a character has the bytes that it is re-encoded in. A high
 -- surrogate and right behind it a low one are six bytes, and one character that is re-encoded in four.
 use mathlib.Core.Path.{_≡_, refl}
-use mathlib.Core.Bool.{true}
-use mathlib.Core.List.{List, _∷_}
+use mathlib.Core.Bool.{true, or-true}
+use mathlib.Core.List.{List, [], _∷_}
 use Prim.Native.Nat.{ℕ, suc, _+_, _-_, _*_, _<_, _≤_}
 use native.Mathlib.Omega.{arith}
 use lib.ListN.{length, getD, take, drop}
 use lib.Seq.{drop-cons}
 use Rattle.chars.specs.Choice.{within}
 use Rattle.chars.specs.Character.{continued, lowest, highest, sequence, paired, judged, character, characterAt}
-use Rattle.chars.specs.Rfc3629.{utf8-char}
+use Rattle.chars.specs.Rfc3629.{utf8-2, utf8-char}
 use Rattle.chars.specs.declared.Character.the-variants.{Clean}
 use Rattle.chars.specs.declared.Sequence.the-variants.{Whole}
 use Rattle.chars.proofs.Extent.{within-true, inside, encoded-four}
@@ -17,15 +17,34 @@ use Rattle.tokens.proofs.Standing.{standing, taken}
 use Rattle.tokens.proofs.Skipping.{reaches}
 use Rattle.runs.specs.Wide.{Wider, Wides, none, more}
 
--- by the grammar, so many of four bytes
-pub by-grammar :
+-- by the grammar, so many bytes from a place on
+by-grammar :
+    (draft : List ℕ) (at r : ℕ) → at + r ≤ length draft → 2 ≤ r → utf8-char (take r (drop at draft)) ≡ true → Wider draft at r 0
+by-grammar draft at r h g e =
+    let s = standing draft at (length draft) r (record { several = g; there = h; grammar = e }) (omega arith) in
+    record { number = s .number; high = s .high; is = s .is; size = omega (arith, s .size); several = g }
+
+-- so many of four
+pub of-four :
     (draft : List ℕ) (at r : ℕ) → at + 4 ≤ length draft → 2 ≤ r → r ≤ 4
     → utf8-char (take r (getD draft at 0 ∷ getD draft (at + 1) 0 ∷ getD draft (at + 2) 0 ∷ getD draft (at + 3) 0 ∷ drop (at + 4) draft))
     ≡ true
     → Wider draft at r 0
-by-grammar draft at r h g l e =
-    let s = standing draft at (length draft) r (taken draft at (length draft) r h (omega arith) g l e) (omega arith) in
-    record { number = s .number; high = s .high; is = s .is; size = omega (arith, s .size); several = g }
+of-four draft at r h g l e =
+    by-grammar draft at r (omega arith) g (taken draft at (length draft) r h (omega arith) g l e .grammar)
+
+-- a byte of a draft, and those behind it
+next : (draft : List ℕ) (i j : ℕ) → j ≡ suc i → i < length draft → drop i draft ≡ getD draft i 0 ∷ drop j draft
+next draft i j e l = rw e (drop-cons draft i 0 l)
+
+-- both of two, whatever stands behind them
+pub of-two :
+    (draft : List ℕ) (at : ℕ) → at + 2 ≤ length draft → utf8-2 (getD draft at 0 ∷ getD draft (at + 1) 0 ∷ []) ≡ true → Wider draft at 2 0
+unfolding utf8-char
+of-two draft at h e =
+    by-grammar draft at 2 h (omega arith)
+    (rw (next draft at (at + 1) (omega arith) (omega arith), next draft (at + 1) (at + 2) (omega arith) (omega arith))
+    (simp (e, or-true)))
 
 -- three bytes from ED on, by the definition
 surrogate :
@@ -56,15 +75,13 @@ six-bytes :
     ≡ getD draft at 0 ∷ getD draft (at + 1) 0 ∷ getD draft (at + 2) 0 ∷ getD draft (at + 3) 0 ∷ getD draft (at + 4) 0
     ∷ getD draft (at + 5) 0 ∷ drop (at + 6) draft
 six-bytes draft at h =
-    let next : (i j : ℕ) → j ≡ suc i → i < length draft → drop i draft ≡ getD draft i 0 ∷ drop j draft =
-    λ i j e l. rw e (drop-cons draft i 0 l) in
     rw (
-      next at (at + 1) (omega arith) (omega arith),
-      next (at + 1) (at + 2) (omega arith) (omega arith),
-      next (at + 2) (at + 3) (omega arith) (omega arith),
-      next (at + 3) (at + 4) (omega arith) (omega arith),
-      next (at + 4) (at + 5) (omega arith) (omega arith),
-      next (at + 5) (at + 6) (omega arith) (omega arith),
+      next draft at (at + 1) (omega arith) (omega arith),
+      next draft (at + 1) (at + 2) (omega arith) (omega arith),
+      next draft (at + 2) (at + 3) (omega arith) (omega arith),
+      next draft (at + 3) (at + 4) (omega arith) (omega arith),
+      next draft (at + 4) (at + 5) (omega arith) (omega arith),
+      next draft (at + 5) (at + 6) (omega arith) (omega arith),
     )
 
 -- a pair where it stands

@@ -8,8 +8,8 @@ ghost use Rattle.tokens.specs.Runs.{bytesOf};
 ghost use Rattle.runs.specs.Bytes.{common, remark, plain, Flags, Passed};
 use tokens::number::eight;
 
-// A flag for each byte that words are not mostly made of: below `-`, of the last five of each thirty-two, `;` to `?`, `[` to `_` and from
-// `{` on, but for `_`, and what is not US-ASCII.
+// A flag for each byte that words are not mostly made of: those below `-` and those that are not US-ASCII, and but for `_` the last five of
+// each thirty-two, `;` to `?`, `[` to `_` and from `{` on.
 fn word_flags(w: u64) -> u64
     ensures { λ r. ⌜ Flags common w r ⌝ }
 {

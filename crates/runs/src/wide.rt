@@ -143,6 +143,22 @@ fn wide(draft: &[u8], at: usize) -> Bytes
     of(0, 0)
 }
 
+// From `at` on, behind characters of two bytes. It is short enough to be put into its callers, where `past_wide` stays a call.
+pub fn past_two(draft: &[u8], at: usize) -> usize
+    requires { ⌜ at ≤ length (now draft) ⌝ }
+    ensures { λ r. ⌜ Wides (now (draft .entry)) at r 0 × (r ≤ length (now (draft .entry))) ⌝ }
+{
+    let end = draft.len();
+    let mut i = at;
+    while 2 <= end - i {
+        if !two(draft[i], draft[i + 1]) {
+            return i;
+        }
+        i += 2;
+    }
+    i
+}
+
 // From `at` on, behind characters above US-ASCII.
 pub fn past_wide(draft: &[u8], at: usize) -> Reach
     requires { ⌜ at ≤ length (now draft) ⌝ }

@@ -5,7 +5,7 @@ use mathlib.Core.Bool.{or-true}
 use native.Mathlib.Omega.{arith}
 use borrow.Author.Needs.{needs}
 use Rattle.chars.specs.Rfc3629.{utf8-char}
-use Rattle.runs.proofs.Widths.{by-grammar}
+use Rattle.runs.proofs.Widths.{of-two, of-four}
 use Rattle.runs.proofs.wide.wide.Statement.{statement}
 use Rattle.runs.proofs.wide.wide.Tie as tie
 
@@ -40,13 +40,11 @@ of-requires-2 : tie.Need-of-requires-2
 of-requires-2 c κs = search needs
 
 returns-2 : tie.Need-returns-2
-unfolding utf8-char
 returns-2 c =
     let a = c .before .before .before .before .before .before .before .before .before .args in
     let e = sym (c .before .before .two .ensures) ∙ c .before .if3 .taken in
     let left = c .before .before .before .before .before .before .before .if1 .left in
-    rw (c .of2 .ensures)
-    (λ h. by-grammar (a .draft .now) (a .at) 2 (omega arith) (omega arith) (omega arith) (simp (e, or-true)))
+    rw (c .of2 .ensures) (λ h. of-two (a .draft .now) (a .at) (omega arith) e)
 
 of-requires-3 : tie.Need-of-requires-3
 of-requires-3 c κs = search needs
@@ -67,7 +65,7 @@ returns-4 c =
     let e = sym (c .before .before .three .ensures) ∙ c .before .if5 .taken in
     let left = c .before .before .before .before .before .before .before .before .if1 .left in
     rw (c .of4 .ensures)
-    (λ h. by-grammar (a .draft .now) (a .at) 3 (omega arith) (omega arith) (omega arith) (simp (e, or-true)))
+    (λ h. of-four (a .draft .now) (a .at) 3 (omega arith) (omega arith) (omega arith) (simp (e, or-true)))
 
 pair-requires : tie.Need-pair-requires
 pair-requires c κs = search needs
@@ -100,7 +98,7 @@ returns-7 c =
     let e = sym (c .before .before .four .ensures) ∙ c .before .if7 .taken in
     let left = c .before .before .before .before .before .before .before .before .before .if1 .left in
     rw (c .of6 .ensures)
-    (λ h. by-grammar (a .draft .now) (a .at) 4 (omega arith) (omega arith) (omega arith) (simp (e, or-true)))
+    (λ h. of-four (a .draft .now) (a .at) 4 (omega arith) (omega arith) (omega arith) (simp (e, or-true)))
 
 of-requires-7 : tie.Need-of-requires-7
 of-requires-7 c κs = search needs
