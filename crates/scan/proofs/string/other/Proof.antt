@@ -9,57 +9,67 @@ use Rattle.scan.proofs.string.other.Tie as tie
 shared-slice-read-b : tie.Need-shared-slice-read-b
 shared-slice-read-b c = search needs
 
-past-wide-requires : tie.Need-past-wide-requires
-past-wide-requires c κs = search needs
+past-two-requires : tie.Need-past-two-requires
+past-two-requires c κs = search needs
 
 returns : tie.Need-returns
 returns c =
-    let a = c .before .before .before .before .args in
-    λ curly level p. wides (a .draft .now) curly (a .i) _ _ level (omega arith) (c .past-wide .ensures .0)
+    let a = c .before .before .before .before .before .args in
+    λ curly level p. wides (a .draft .now) curly (a .i) _ _ level (omega arith) (c .before .past-two .ensures .0)
+
+past-wide-requires : tie.Need-past-wide-requires
+past-wide-requires c κs = search needs
 
 returns-2 : tie.Need-returns-2
 returns-2 c =
+    let a = c .before .before .before .before .before .before .args in
+    λ curly level p. wides (a .draft .now) curly (a .i) _ _ level (omega arith) (c .past-wide .ensures .0)
+
+returns-3 : tie.Need-returns-3
+returns-3 c =
     let a = c .before .before .before .before .args in
     λ curly level p. nothing (a .draft .now) curly (a .i) level (omega arith)
 
 is-line-requires : tie.Need-is-line-requires
 is-line-requires c κs = search needs
 
-add-t10 : tie.Need-add-t10
-add-t10 c = search needs
-
-returns-3 : tie.Need-returns-3
-returns-3 c =
-    let a = c .before .before .before .before .before .before .before .args in
-    λ curly level p. line (a .draft .now) curly (a .i) level (c .before .is-line .ensures .0 (c .if4 .taken) .1)
+add-t12 : tie.Need-add-t12
+add-t12 c = search needs
 
 returns-4 : tie.Need-returns-4
 returns-4 c =
     let a = c .before .before .before .before .before .before .before .args in
-    λ curly level p. nothing (a .draft .now) curly (a .i) level (omega arith)
-
-add-t11 : tie.Need-add-t11
-add-t11 c = search needs
+    λ curly level p. line (a .draft .now) curly (a .i) level (c .before .is-line .ensures .0 (c .if5 .taken) .1)
 
 returns-5 : tie.Need-returns-5
 returns-5 c =
+    let a = c .before .before .before .before .before .before .before .args in
+    λ curly level p. nothing (a .draft .now) curly (a .i) level (omega arith)
+
+add-t13 : tie.Need-add-t13
+add-t13 c = search needs
+
+returns-6 : tie.Need-returns-6
+returns-6 c =
     let a = c .before .before .before .before .before .args in
-    let z = c .before .if2 .left in
+    let z = c .before .if3 .left in
     λ curly level p.
     alone (a .draft .now) curly (a .i) level (omega arith)
-    (record { above = omega arith; below = omega arith; no-return = c .if3 .left }) p
+    (record { above = omega arith; below = omega arith; no-return = c .if4 .left }) p
 
 pub other-spec : {M : Type 1} → statement M
 other-spec =
     tie.close
     (tie.spec
     shared-slice-read-b
-    past-wide-requires
+    past-two-requires
     returns
+    past-wide-requires
     returns-2
-    is-line-requires
-    add-t10
     returns-3
+    is-line-requires
+    add-t12
     returns-4
-    add-t11
-    returns-5)
+    returns-5
+    add-t13
+    returns-6)
