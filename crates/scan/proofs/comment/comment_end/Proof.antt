@@ -31,17 +31,23 @@ shared-slice-read-b c = search needs
 add-result : tie.Need-add-result Inv-loop μ-loop
 add-result c = search needs
 
+-- behind the bytes that comments are mostly made of, inside the comment still
+here :
+    (c : tie.After-past-remark Inv-loop μ-loop)
+    → Inside (c .before .before .before .args .draft .now) (c .before .before .before .args .at) (c .past-remark .result)
+here c =
+    let a = c .before .before .before .args in
+    run (a .draft .now) (a .at) (c .before .loop .from) (c .past-remark .result) (c .before .loop .inv) (c .past-remark .ensures)
+
 returns-2 : tie.Need-returns-2 Inv-loop μ-loop
 returns-2 c =
     λ h.
-    let a = c .before .before .before .before .before .before .args in
-    let l = c .before .before .before .before .loop in
-    let p = c .before .before .before .past-remark in
-    let s = run (a .draft .now) (a .at) (l .from) (p .result) (l .inv) (p .ensures) in
-    let i = p .result in
+    let p = c .before .before .before in
+    let a = p .before .before .before .args in
+    let i = p .past-remark .result in
     let b = getD (a .draft .now) i 0 in
     let is = plain (a .draft .now) i (omega arith) (omega arith) (omega arith) (λ e. omega arith) in
-    ended (a .draft .now) (a .at) i b (i + 1) s is (c .if2 .taken)
+    ended (a .draft .now) (a .at) i b (i + 1) (here p) is (c .if2 .taken)
 
 is-line-requires : tie.Need-is-line-requires Inv-loop μ-loop
 is-line-requires c κs = search needs
@@ -52,11 +58,10 @@ add-result-2 c = search needs
 returns-3 : tie.Need-returns-3 Inv-loop μ-loop
 returns-3 c =
     λ h.
-    let a = c .before .before .before .before .before .before .before .before .before .args in
-    let l = c .before .before .before .before .before .before .before .loop in
-    let p = c .before .before .before .before .before .before .past-remark in
-    let s = run (a .draft .now) (a .at) (l .from) (p .result) (l .inv) (p .ensures) in
-    ended (a .draft .now) (a .at) (p .result) 0x0A (p .result + 2) s (c .before .is-line .ensures .0 (c .if4 .taken) .1) refl
+    let p = c .before .before .before .before .before .before in
+    let a = p .before .before .before .args in
+    let i = p .past-remark .result in
+    ended (a .draft .now) (a .at) i 0x0A (i + 2) (here p) (c .before .is-line .ensures .0 (c .if4 .taken) .1) refl
 
 returns-4 : tie.Need-returns-4 Inv-loop μ-loop
 returns-4 c = λ h. absurd (omega arith)
@@ -72,13 +77,15 @@ loop-less c = omega (arith, c .before .before .before .before .before .before .p
 
 loop-again : tie.Need-loop-again Inv-loop μ-loop
 loop-again c =
-    let a = c .before .before .before .before .before .before .before .before .before .args in
-    let l = c .before .before .before .before .before .before .before .loop in
-    let p = c .before .before .before .before .before .before .past-remark in
-    let s = run (a .draft .now) (a .at) (l .from) (p .result) (l .inv) (p .ensures) in
-    let there : 0 < getD (a .draft .now) (p .result) 0 = omega (arith, c .before .if5 .left) in
-    let no-return = c .before .before .if3 .left in
-    one-byte (a .draft .now) (a .at) (p .result) s (omega arith) there (omega arith) no-return (c .before .before .before .if2 .left)
+    let p = c .before .before .before .before .before .before in
+    let a = p .before .before .before .args in
+    let i = p .past-remark .result in
+    let there : 0 < getD (a .draft .now) i 0 = omega (arith, c .before .if5 .left) in
+    one-byte (a .draft .now) (a .at) i (here p) (omega arith) there (omega arith) (c .before .before .if3 .left)
+    (c .before .before .before .if2 .left)
+
+past-two-requires : tie.Need-past-two-requires Inv-loop μ-loop
+past-two-requires c κs = search needs
 
 past-wide-requires : tie.Need-past-wide-requires Inv-loop μ-loop
 past-wide-requires c κs = search needs
@@ -89,16 +96,24 @@ returns-6 c = λ h. absurd (omega arith)
 loop-less-2 : tie.Need-loop-less-2 Inv-loop μ-loop
 loop-less-2 c =
     let w = c .before .past-wide .ensures in
-    let p = c .before .before .before .before .before .before .before .before .past-remark .ensures in
-    omega (arith, p .on, forth (w .0), w .1, c .if7 .left)
+    let p = c .before .before .before .before .before .before .before .before .before .before .past-remark .ensures in
+    omega (arith, p .on, forth (w .0), w .1, c .if8 .left)
 
 loop-again-2 : tie.Need-loop-again-2 Inv-loop μ-loop
 loop-again-2 c =
-    let a = c .before .before .before .before .before .before .before .before .before .before .before .args in
-    let l = c .before .before .before .before .before .before .before .before .before .loop in
-    let p = c .before .before .before .before .before .before .before .before .past-remark in
-    let s = run (a .draft .now) (a .at) (l .from) (p .result) (l .inv) (p .ensures) in
-    foreign s (c .before .past-wide .ensures .0)
+    let p = c .before .before .before .before .before .before .before .before .before .before in
+    foreign (here p) (c .before .past-wide .ensures .0)
+
+loop-less-3 : tie.Need-loop-less-3 Inv-loop μ-loop
+loop-less-3 c =
+    let w = c .before .past-two .ensures in
+    let p = c .before .before .before .before .before .before .before .before .past-remark .ensures in
+    omega (arith, p .on, forth (w .0), w .1, c .if7 .left)
+
+loop-again-3 : tie.Need-loop-again-3 Inv-loop μ-loop
+loop-again-3 c =
+    let p = c .before .before .before .before .before .before .before .before in
+    foreign (here p) (c .before .past-two .ensures .0)
 
 pub comment-end-spec : {M : Type 1} → statement M
 comment-end-spec =
@@ -120,7 +135,10 @@ comment-end-spec =
     add-from
     loop-less
     loop-again
+    past-two-requires
     past-wide-requires
     returns-6
     loop-less-2
-    loop-again-2)
+    loop-again-2
+    loop-less-3
+    loop-again-3)
