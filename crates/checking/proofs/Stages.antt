@@ -1,5 +1,5 @@
 -- The stages of a check: the table, reading, and the check of what was read. Each is the definition where the stage before it is done.
-use mathlib.Core.Path.{_≡_, refl, ap}
+use mathlib.Core.Path.{_≡_, refl, sym, _∙_, ap}
 use mathlib.Core.Bool.{true, false}
 use mathlib.Core.List.{List}
 use mathlib.Core.Option.{none, some}
@@ -7,15 +7,18 @@ use Prim.Native.Nat.{ℕ}
 use lib.Dec.{eqb}
 use Rattle.chars.specs.Choice.{if_then_else_}
 use Rattle.chars.specs.Limits.{Limits, limits}
+use Rattle.chars.proofs.Cases.{either}
 use Rattle.reading.specs.Reading.{readWith, roomOf, answered, Reading, reading}
 use Rattle.reading.specs.declared.Answer.{Answer}
 use Rattle.reading.proofs.Closed.{closed}
 use Rattle.table.specs.Table.{Operation, operations}
+use Rattle.table.specs.Entered.{sound, operationsOf}
+use Rattle.table.proofs.Sound.{operations-sound, operations-unsound}
 use Rattle.rules.specs.Cells.{Ended}
 use Rattle.rules.specs.Kinds.{check as checkOf}
 use Rattle.cells.specs.Kept.{Held, checkKept}
 use Rattle.cells.proofs.Keeping.{kept, held}
-use Rattle.checking.specs.Checking.{checked, unsound, completed, checkedWith, checking}
+use Rattle.checking.specs.Checking.{told, checked, unsound, completed, checkedWith, checking}
 
 module _ (L : Limits) (draft list text table : List ℕ) where
   pub at-table : operations L table ≡ none → checking L draft list text table ≡ unsound list text
@@ -34,19 +37,6 @@ module _ (L : Limits) (draft list text table : List ℕ) where
         ≡ checked (checkOf L os (readWith L (roomOf list text) draft .entities)) (reading L draft list text)
     unfolding checking checkedWith completed reading
     at-check e = rw (h, checkedWith, e, completed)
-
--- the answer of a check, from that of reading and how the check ended
-abbrev pub told : Answer → Ended → Answer
-told a e =
-    record {
-      number = e .number;
-      place = e .place;
-      entities = a .entities;
-      text = a .text;
-      consumed = if eqb (e .number) 0 then a .consumed else 0;
-      steps = e .steps;
-      cells = e .cells;
-    }
 
 -- what was read stands in the buffers that reading leaves, and its check is the check of the entities
 module _ (draft list text : List ℕ) where
@@ -67,3 +57,35 @@ module _ (draft list text : List ℕ) where
   pub number-read : r .answer .number ≡ readWith limits (roomOf list text) draft .number
   unfolding reading answered
   number-read = refl
+
+-- The ways out of a check. `check` goes them, and so does the call for C, which reads by a call of its own.
+abbrev Leaves : Reading → Answer → (list text : List ℕ) → Type 0
+Leaves r a list text = (a ≡ r .answer) × ((list ≡ r .list) × (text ≡ r .text))
+
+module _ (draft list text table : List ℕ) {a : Answer} {list′ text′ : List ℕ} where
+  pub without-table :
+      sound limits table ≡ false
+      → Leaves (unsound list text) a list′ text′
+      → Leaves (checking limits draft list text table) a list′ text′
+  without-table bad left = rw (at-table limits draft list text table (operations-unsound limits table bad)) left
+
+  module _ (left : Leaves (reading limits draft list text) a list′ text′) where
+    abbrev number : a .number ≡ readWith limits (roomOf list text) draft .number
+    number = ap (λ x. x .number) (left .0) ∙ number-read draft list text
+
+    pub held-behind : a .number ≡ 0 → Held list′ text′ (a .entities)
+    held-behind z = rw (left .0, left .1 .0, left .1 .1) (held-reading draft list text (sym number ∙ z))
+
+    pub behind-reading :
+        {r : Answer}
+        → sound limits table ≡ true
+        → r ≡ (if eqb (a .number) 0 then told a (checkKept limits (operationsOf table) list′ text′ (a .entities)) else a)
+        → Leaves (checking limits draft list text table) r list′ text′
+    unfolding checked
+    behind-reading good is =
+        let os = operationsOf table in
+        let there = operations-sound limits table good in
+        either (eqb (a .number) 0)
+        (λ t. rw (at-check limits draft list text table os there (rw number at t))
+        (is ∙ rw (t, left .0, left .1 .0, left .1 .1, kept-reading draft list text os), left .1))
+        (λ t. rw (at-reading limits draft list text table os there (rw number at t)) (is ∙ rw (t, left .0), left .1))

@@ -9,26 +9,27 @@ use Rattle.chars.specs.Choice.{if_then_else_}
 use Rattle.entities.specs.Entity.{Entity}
 use Rattle.entities.specs.Making.{Room}
 use Rattle.reading.specs.Reading.{Read, Reading, readWith, roomOf, answered}
+use Rattle.reading.specs.declared.Answer.{Answer}
 use Rattle.table.specs.Table.{Operation, operations}
 use Rattle.rules.specs.Cells.{Ended}
 use Rattle.rules.specs.Kinds.{check}
 
+-- the answer of a check, from that of reading and how the check ended
+abbrev pub told : Answer → Ended → Answer
+told a ended =
+    record {
+      number = ended .number;
+      place = ended .place;
+      entities = a .entities;
+      text = a .text;
+      consumed = if eqb (ended .number) 0 then a .consumed else 0;
+      steps = ended .steps;
+      cells = ended .cells;
+    }
+
 -- The answer once reading is done: a refusal of reading stands; else the check's own, and the buffers hold the whole reading.
 unfoldable pub checked : Ended → Reading → Reading
-checked ended r =
-    record {
-      answer = record {
-        number = ended .number;
-        place = ended .place;
-        entities = r .answer .entities;
-        text = r .answer .text;
-        consumed = if eqb (ended .number) 0 then r .answer .consumed else 0;
-        steps = ended .steps;
-        cells = ended .cells;
-      };
-      list = r .list;
-      text = r .text;
-    }
+checked ended r = record { answer = told (r .answer) ended; list = r .list; text = r .text }
 
 -- refusal 20: nothing is written
 unfoldable pub unsound : (list text : List ℕ) → Reading

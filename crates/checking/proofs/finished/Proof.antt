@@ -1,6 +1,7 @@
 -- `checking::finished` meets its contract: the byte after `;` is told where the check passed. Assumes nothing.
 use mathlib.Core.Logic.{⊎-elim}
 use borrow.Author.Tests.{eq-eqb, ne-eqb}
+use Rattle.cells.specs.Kept.{endedOf}
 use borrow.Author.Needs.{needs}
 use Rattle.checking.proofs.finished.Statement.{statement}
 use Rattle.checking.proofs.finished.Tie as tie
@@ -12,6 +13,7 @@ cast-t7 : tie.Need-cast-t7
 cast-t7 c = search needs
 
 returns : tie.Need-returns
+unfolding endedOf
 returns c =
     let o = c .before .before .before .before .args .o in
     ⊎-elim
