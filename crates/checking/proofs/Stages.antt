@@ -62,12 +62,11 @@ module _ (draft list text : List ℕ) where
 abbrev Leaves : Reading → Answer → (list text : List ℕ) → Type 0
 Leaves r a list text = (a ≡ r .answer) × ((list ≡ r .list) × (text ≡ r .text))
 
-module _ (draft list text table : List ℕ) {a : Answer} {list′ text′ : List ℕ} where
+module _ (draft list text : List ℕ) {a : Answer} {list′ text′ : List ℕ} where
   pub without-table :
-      sound limits table ≡ false
-      → Leaves (unsound list text) a list′ text′
+      (table : List ℕ) → sound limits table ≡ false → Leaves (unsound list text) a list′ text′
       → Leaves (checking limits draft list text table) a list′ text′
-  without-table bad left = rw (at-table limits draft list text table (operations-unsound limits table bad)) left
+  without-table table bad left = rw (at-table limits draft list text table (operations-unsound limits table bad)) left
 
   module _ (left : Leaves (reading limits draft list text) a list′ text′) where
     abbrev number : a .number ≡ readWith limits (roomOf list text) draft .number
@@ -77,12 +76,11 @@ module _ (draft list text table : List ℕ) {a : Answer} {list′ text′ : List
     held-behind z = rw (left .0, left .1 .0, left .1 .1) (held-reading draft list text (sym number ∙ z))
 
     pub behind-reading :
-        {r : Answer}
-        → sound limits table ≡ true
+        (table : List ℕ) {r : Answer} → sound limits table ≡ true
         → r ≡ (if eqb (a .number) 0 then told a (checkKept limits (operationsOf table) list′ text′ (a .entities)) else a)
         → Leaves (checking limits draft list text table) r list′ text′
     unfolding checked
-    behind-reading good is =
+    behind-reading table good is =
         let os = operationsOf table in
         let there = operations-sound limits table good in
         either (eqb (a .number) 0)

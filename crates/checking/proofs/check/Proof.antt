@@ -9,7 +9,7 @@ use Rattle.checking.proofs.check.Statement.{statement}
 use Rattle.checking.proofs.check.Tie as tie
 
 judge-requires : tie.Need-judge-requires
-judge-requires c κs = (no-entries (c .before .before .before .before .before .args .table .now), refl)
+judge-requires c κs = (no-entries _, refl)
 
 unsound-requires : tie.Need-unsound-requires
 unsound-requires c κs = search needs
@@ -26,9 +26,7 @@ returns c =
     let u = c .before .before .before .before in
     let t = u .before .before .before in
     let j = t .before in
-    let a = j .before .before .before .before .before .before .args in
-    without-table (a .draft .now) (a .list .now) (a .text .now) (a .table .now)
-    (sym (j .judge .ensures .0) ∙ not-true _ (t .if1 .taken)) (u .unsound .ensures)
+    without-table _ _ _ _ (sym (j .judge .ensures .0) ∙ not-true _ (t .if1 .taken)) (u .unsound .ensures)
 
 read-requires : tie.Need-read-requires
 read-requires c κs = search needs
@@ -38,9 +36,8 @@ checked-requires c κs z =
     let r = c .before .before .before .before .before .before .before in
     let e = r .before .before .before in
     let j = e .before in
-    let a = j .before .before .before .before .before .before .args in
     let good = not-false _ (e .if1 .left) in (
-      held-behind (a .draft .now) (a .list .now) (a .text .now) (a .table .now) (r .read .ensures) z,
+      held-behind _ _ _ (r .read .ensures) z,
       j .judge .ensures .1 good,
       sym (j .judge .ensures .0) ∙ good,
     )
@@ -56,8 +53,7 @@ returns-2 c =
     let r = c .before .before .before .before .before .before .before .before in
     let e = r .before .before .before in
     let j = e .before in
-    let a = j .before .before .before .before .before .before .args in
-    behind-reading (a .draft .now) (a .list .now) (a .text .now) (a .table .now) (r .read .ensures)
+    behind-reading _ _ _ (r .read .ensures) _
     (sym (j .judge .ensures .0) ∙ not-false _ (e .if1 .left)) (c .checked .ensures)
 
 pub check-spec : {M : Type 1} → statement M
