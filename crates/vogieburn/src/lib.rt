@@ -19,7 +19,8 @@ pub extern "C" fn vogieburn_read(draft: &[u8], list: &mut [u32], text: &mut [u8]
     reading::read(draft, list, text)
 }
 
-// Reads a draft likewise, and checks it against a lent table of operations.
+// Reads a draft likewise, and checks it against a lent table of operations. Here reading has one caller, `vogieburn_read`, so the compiler
+// puts it in there, and its answer is written where C wants it and not copied.
 #[no_mangle]
 pub extern "C" fn vogieburn_check(
     draft: &[u8],
@@ -33,7 +34,12 @@ pub extern "C" fn vogieburn_check(
     ensures { λ _. ⌜ now (text .exit) ≡ checkingOf limits (now (draft .entry)) (now (list .entry)) (now (text .entry)) (now (table .entry))
         .text ⌝ }
 {
-    checking::check(draft, list, text, table)
+    let mut operations = [0u32; 1792];
+    if !table::judge(table, &mut operations) {
+        return checking::unsound(list, text);
+    }
+    let a = vogieburn_read(draft, list, text);
+    checking::checked(a, list, text, table, &operations)
 }
 
 // Whether only whitespace follows a place of a draft.
