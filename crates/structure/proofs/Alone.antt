@@ -3,13 +3,12 @@
 use mathlib.Core.Path.{_≡_, refl, sym, _∙_}
 use mathlib.Core.Bool.{Bool, true, false, not, _&&_, _||_}
 use mathlib.Core.List.{List, [], _∷_}
-use Prim.Native.Nat.{ℕ, _+_, _-_, _*_, _<_, _≤_, _/_}
+use Prim.Native.Nat.{ℕ, _-_, _*_, _<_, _≤_, _/_}
 use native.Mathlib.Omega.{arith}
-use lib.Dec.{leb, ltb, eqb}
+use lib.Dec.{ltb, eqb}
 use lib.ListN.{length, getD}
-use borrow.Author.Tests.{eqb-true, ne-eqb, lt-ltb, le-ltb, ltb-false}
+use borrow.Author.Tests.{eqb-true, ne-eqb, lt-ltb, le-leb, ltb-false}
 use Rattle.chars.specs.Limits.{limits}
-use Rattle.chars.proofs.Cases.{either}
 use Rattle.tokens.specs.Sorts.{visible, white, atomic, inclusive}
 use Rattle.tokens.proofs.Table.{implied}
 use Rattle.runs.specs.Bytes.{beginsOf}
@@ -17,10 +16,10 @@ use Rattle.entities.specs.Entity.{bare}
 use Rattle.entities.specs.Making.{fitted, handled, regular, judged, judged-last, closing, within-groups, adds}
 use Rattle.entities.specs.Judging.{bares, counting, kindOf}
 use Rattle.entities.specs.Stepping.{Ready, openGroups, roomLeft, readerOf, agrees, took, judgedAs, closingAs, Fits, Ruled, structural}
-use Rattle.entities.specs.Stepping.{enteredBy, enteredGroups, leadOf}
+use Rattle.entities.specs.Stepping.{below, enteredBy, enteredGroups, leadOf}
 use Rattle.entities.specs.declared.state.State.{State}
 use Rattle.entities.specs.declared.state.Step.{Step}
-use Rattle.entities.proofs.OpenGroups.{so-many, higher}
+use Rattle.entities.proofs.OpenGroups.{so-many}
 use Rattle.entities.proofs.Fitting.{nothing, empty-bares, empty-counting, fits-agrees}
 use Rattle.entities.proofs.Entering.{too-many, no-room, entered, ready-entered}
 
@@ -103,74 +102,66 @@ module _ (s : State) (list groups : List ℕ) (place c : ℕ) (b : Bool) (e : b 
         (λ u. roomy-enough b s list (ready .held) f (sym same ∙ u)) pushed (rw same so-here) (took r) list′ text groups′ (rw same done)
 
 -- the last token
-module _ (s : State) (list groups : List ℕ) (place : ℕ) where
-  abbrev Ended : Step → (list′ : List ℕ) → Type 0
-  Ended r list′ =
-      (text : List ℕ) → Ready s list text groups place
-      → agrees
-      (handled limits (roomLeft s list text) (readerOf s groups) false place (λ q. judged-last q place))
-      (took r) s list text list′ text groups place
+abbrev Ended : State → (list groups : List ℕ) → (place : ℕ) → Step → (list′ : List ℕ) → Type 0
+Ended s list groups place r list′ =
+    (text : List ℕ) → Ready s list text groups place
+    → agrees
+    (handled limits (roomLeft s list text) (readerOf s groups) false place (λ q. judged-last q place))
+    (took r) s list text list′ text groups place
 
-  opened-here : (eqb (s .mode) 1 && not false) ≡ eqb (s .mode) 1
-  opened-here = either (eqb (s .mode) 1) (λ t. rw t) (λ t. rw t)
-
-  pub ended-17 : (r : Step) → r ≡ record { number = 17; state = s } → (eqb (s .mode) 1 && leb 64 (s .depth)) ≡ true → Ended r list
-  unfolding took
-  ended-17 r is t text ready =
-      rw is (too-many s list text groups place false (λ q. judged-last q place) (rw opened-here t) groups)
-
-  module _ (shallow : eqb (s .mode) 1 ≡ true → s .depth < 64) where
-    pub ended-18 :
-        (r : Step) → r ≡ record { number = 18; state = s } → (eqb (s .mode) 1 && ltb (length list - 6 * s .entities) 6) ≡ true
-        → Ended r list
+module _ {s : State} {list groups : List ℕ} {place : ℕ} {r : Step} where
+  -- behind `[` it brings a group: 17 and 18 for that one, and else that one is open
+  module _ (opened : s .mode ≡ 1) where
+    pub ended-17 : 64 ≤ s .depth → r ≡ record { number = 17; state = s } → Ended s list groups place r list
     unfolding took
-    ended-18 r is t text ready =
-        rw is
-        (no-room s list text groups place false (λ q. judged-last q place) (λ u. shallow (sym opened-here ∙ u)) (ready .held)
-        (rw opened-here t) groups)
+    ended-17 deep is text ready =
+        rw is (too-many s list text groups place false (λ q. judged-last q place) (rw opened (le-leb 64 (s .depth) deep)) groups)
 
-    -- the group that it brings is open
-    pub ended-array :
-        (r : Step) → r ≡ record { number = 13; state = s } → (eqb (s .mode) 1 && ltb (length list - 6 * s .entities) 6) ≡ false
-        → eqb (s .mode) 1 ≡ true → Ended r list
-    unfolding took handled readerOf roomLeft within-groups judged-last fitted agrees
-    ended-array r is f t text ready =
-        let few = shallow t in
-        rw (
-          is,
-          t,
-          lt-ltb (length (openGroups groups (s .depth))) 64 (omega (arith, so-many groups (s .depth))),
-          ne-eqb (length list / 6 - s .entities) 0 (roomy-enough (eqb (s .mode) 1) s list (ready .held) f t),
-          lt-ltb 0 (length (1 ∷ openGroups groups (s .depth))) (omega arith),
-        ) (refl, refl, refl, refl, refl)
+    module _ (shallow : s .depth < 64) where
+      pub ended-18 :
+          length list - 6 * s .entities < 6 → r ≡ record { number = 18; state = s } → Ended s list groups place r list
+      unfolding took
+      ended-18 few is text ready =
+          rw is
+          (no-room s list text groups place false (λ q. judged-last q place) (λ u. shallow) (ready .held)
+          (rw opened (lt-ltb (length list - 6 * s .entities) 6 few)) groups)
 
-  pub ended-metacommand : (r : Step) → r ≡ record { number = 12; state = s } → s .mode ≡ 2 → Ended r list
+      pub ended-array :
+          6 ≤ length list - 6 * s .entities → r ≡ record { number = 13; state = s } → Ended s list groups place r list
+      unfolding took handled readerOf roomLeft within-groups judged-last fitted agrees
+      ended-array many is text ready =
+          rw (
+            is,
+            opened,
+            lt-ltb (length (openGroups groups (s .depth))) 64 (omega (arith, so-many groups (s .depth))),
+            ne-eqb (length list / 6 - s .entities) 0 (λ none. omega (arith, ready .held)),
+            lt-ltb 0 (length (1 ∷ openGroups groups (s .depth))) (omega arith),
+          ) (refl, refl, refl, refl, refl)
+
+  pub ended-metacommand : s .mode ≡ 2 → r ≡ record { number = 12; state = s } → Ended s list groups place r list
   unfolding took handled readerOf judged-last fitted agrees
-  ended-metacommand r is m text ready = rw (is, m) (refl, refl, refl, refl, refl)
+  ended-metacommand m is text ready = rw (is, m) (refl, refl, refl, refl, refl)
 
-  module _ (unopened : eqb (s .mode) 1 ≡ false) (regularly : s .mode ≡ 2 → ⊥) where
-    pub ended-open : (r : Step) → r ≡ record { number = 13; state = s } → 0 < s .depth → Ended r list
+  module _ (unopened : s .mode ≡ 1 → ⊥) (regularly : s .mode ≡ 2 → ⊥) where
+    pub ended-open : (s .depth ≡ 0 → ⊥) → r ≡ record { number = 13; state = s } → Ended s list groups place r list
     unfolding took handled readerOf judged-last fitted agrees
-    ended-open r is deep text ready =
+    ended-open deep is text ready =
         rw (
           is,
-          unopened,
+          ne-eqb (s .mode) 1 unopened,
           ne-eqb (s .mode) 2 regularly,
           lt-ltb 0 (length (openGroups groups (s .depth))) (omega (arith, so-many groups (s .depth))),
         ) (refl, refl, refl, refl, refl)
 
+    -- nothing is open before it, and nothing is behind it
     pub ended :
-        s .depth ≤ 0 → (r : Step) (list′ : List ℕ)
-        → Fits s list (counting 17 place 0 ∷ []) (s .mode) (s .depth) list′ r → Ended r list′
-    unfolding handled readerOf judged-last adds bare bares counting kindOf
-    ended flat r list′ x text ready =
+        {list′ : List ℕ} → s .depth ≡ 0 → Fits s list (counting 17 place 0 ∷ []) 0 0 list′ r → Ended s list groups place r list′
+    unfolding handled readerOf judged-last adds bare bares counting kindOf openGroups below
+    ended {list′} flat x text ready =
         let empty = empty-bares 0 place (counting 17 place 0 ∷ []) (empty-counting 17 place 0 [] nothing) in
-        rw (
-          unopened,
-          ne-eqb (s .mode) 2 regularly,
-          le-ltb 0 (length (openGroups groups (s .depth))) (omega (arith, so-many groups (s .depth))),
-        )
-        (rw (unopened, ne-eqb (s .mode) 2 regularly) at
-        (fits-agrees s list text groups groups place 0 (counting 17 place 0 ∷ []) (readerOf s groups) empty ready (s .mode) (s .depth) list′
-        r x refl (ready .deep) (ready .array)
-        (higher (openGroups groups (s .depth)) (place + 1) (place + 2) (omega arith) (ready .numbers))))
+        let simple = ne-eqb (s .mode) 1 unopened in
+        let plain = ne-eqb (s .mode) 2 regularly in
+        rw (simple, plain, flat)
+        (rw (simple, plain, flat) at
+        (fits-agrees s list text groups groups place 0 (counting 17 place 0 ∷ []) (readerOf s groups) empty ready 0 0 list′ r x
+        (rw (simple, plain, flat)) (omega arith) (ready .array) tt))

@@ -6,10 +6,9 @@ ghost use Prim.Native.Nat.{ℕ, _<_, _≤_};
 ghost use Rattle.chars.specs.Limits.{limits as base};
 ghost use Rattle.entities.specs.Making.{handled, judged-last};
 ghost use Rattle.entities.specs.Stepping.{Ready, Steady, roomLeft, readerOf, agrees, took};
+use chars::limits;
 use entities::bare::one;
 use entities::bare::stops;
-use entities::brought::crowded;
-use entities::brought::roomless;
 use entities::state::State;
 use entities::state::Step;
 
@@ -21,22 +20,20 @@ pub fn last(list: &mut [u32], groups: &[u16], s: State, place: usize) -> Step
 {
     let mode = s.mode;
     let depth = s.depth;
-    let entities = s.entities;
-    let opened = mode == 1;
-    if crowded(opened, depth) {
-        return stops(17, s);
-    }
-    if roomless(list, opened, entities) {
-        return stops(18, s);
-    }
-    if opened {
+    if mode == 1 {
+        if limits::GROUPS <= depth {
+            return stops(17, s);
+        }
+        if list.len() - 6 * s.entities < 6 {
+            return stops(18, s);
+        }
         return stops(13, s);
     }
     if mode == 2 {
         return stops(12, s);
     }
-    if 0 < depth {
+    if depth != 0 {
         return stops(13, s);
     }
-    one(list, s, 17, place, mode, depth)
+    one(list, s, 17, place, 0, 0)
 }
