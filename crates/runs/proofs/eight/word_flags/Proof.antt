@@ -1,5 +1,5 @@
--- `runs::eight::word_flags` meets its contract. Of a byte below 80 hex, 53 more has the highest bit from `-` on; of its lowest five bits, 65
--- more has it from 1B on; and what differs from `_` by some bit has it with 7F more. Assumes nothing.
+-- `runs::eight::word_flags` meets its contract. Of a byte below 80 hex, 53 more has the highest bit from `-` on; of its lowest five bits,
+-- 65 more has it from 1B on; and what differs from `_` by some bit has it with 7F more. Assumes nothing.
 use mathlib.Core.Path.{refl}
 use Prim.Native.Nat.{ℕ, _+_, _^_, _<_}
 use native.Mathlib.Omega.{arith}
