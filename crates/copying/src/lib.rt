@@ -19,18 +19,22 @@ pub enum Copied {
     TooSmall,
 }
 
-// A re-encoded character at a place of a part. Of four bytes it is written at once, as those of surrogate pairs are.
+// A re-encoded character of four bytes at a place of a part.
+fn put_four(out: &mut [u8], at: usize, bytes: [u8; 4])
+    requires { ⌜ at + 4 ≤ length (now out) ⌝ }
+    ensures { λ r. ⌜ now (out .exit) ≡ paste (now (out .entry)) at bytes 4 ⌝ }
+{
+    out[at] = bytes[0];
+    out[at + 1] = bytes[1];
+    out[at + 2] = bytes[2];
+    out[at + 3] = bytes[3];
+}
+
+// The same of `n` bytes.
 fn put(out: &mut [u8], at: usize, bytes: [u8; 4], n: usize)
     requires { ⌜ (n ≤ 4) × (at + n ≤ length (now out)) ⌝ }
     ensures { λ r. ⌜ now (out .exit) ≡ paste (now (out .entry)) at bytes n ⌝ }
 {
-    if n == 4 {
-        out[at] = bytes[0];
-        out[at + 1] = bytes[1];
-        out[at + 2] = bytes[2];
-        out[at + 3] = bytes[3];
-        return;
-    }
     let mut j = 0;
     while j < n {
         out[at + j] = bytes[j];
@@ -111,7 +115,7 @@ fn half(draft: &[u8], i: usize, low: u8) -> u32
 
 // The number of the surrogate pair at a place, or 0 where none stands there.
 fn pair(draft: &[u8], i: usize) -> u32
-    ensures { λ r. ⌜ (0 < r → characterAt (now (draft .entry)) i ≡ Clean r (i + 6)) ⌝ }
+    ensures { λ r. ⌜ (0 < r → (characterAt (now (draft .entry)) i ≡ Clean r (i + 6)) × (0x10000 ≤ r)) ⌝ }
 {
     if draft.len() <= i {
         return 0;
@@ -166,7 +170,17 @@ fn next(draft: &[u8], i: usize) -> Character
     chars::character_at(draft, i)
 }
 
-// Copies clean bytes from a place of the draft on, `n` at most, to the front of a part.
+// The number of the pair at a place, or 0 where none stands there or its four bytes are too many.
+fn pair_within(draft: &[u8], i: usize, most: usize) -> u32
+    ensures { λ r. ⌜ (0 < r → (characterAt (now (draft .entry)) i ≡ Clean r (i + 6)) × (0x10000 ≤ r) × (4 ≤ most)) ⌝ }
+{
+    if most < 4 {
+        return 0;
+    }
+    pair(draft, i)
+}
+
+// Copies clean bytes from a place of the draft on, `n` at most, to the front of a part. Pairs one behind the other are told first.
 pub fn copy(draft: &[u8], from: usize, n: usize, out: &mut [u8]) -> Copied
     ensures { λ r. ⌜ (r ≡ copied (now (draft .entry)) from n (now (out .entry)))
         × (now (out .exit) ≡ copiedInto (now (draft .entry)) from n (now (out .entry))) ⌝ }
@@ -177,6 +191,15 @@ pub fn copy(draft: &[u8], from: usize, n: usize, out: &mut [u8]) -> Copied
     let mut i = from;
     let mut k: usize = 0;
     loop {
+        let two = pair_within(draft, i, n - k);
+        if 0 < two {
+            let four = chars::encode(two);
+            let bytes = four.bytes;
+            put_four(out, k, bytes);
+            k += 4;
+            i += 6;
+            continue;
+        }
         let most = ahead(draft, i, n - k);
         let same = kept(draft, i, most, out, k);
         k += same;

@@ -1,15 +1,18 @@
 -- `copying::copy` meets its contract. The invariant: so many clean bytes stand at the front, and behind them the part is as it was
--- lent. A turn copies the bytes that stay as they are, and then one character. Assumes nothing.
-use mathlib.Core.Path.{_≡_, sym, _∙_}
+-- lent. A turn copies a surrogate pair, or
+-- the bytes that stay as they are and then one character. Assumes nothing.
+use mathlib.Core.Path.{_≡_, sym, _∙_, ap}
+use lib.ListN.{length}
 use mathlib.Core.Logic.{⊎-elim}
 use Prim.Native.Nat.{_+_, _-_, _≤_}
 use native.Mathlib.Omega.{arith}
 use mir.Val.{Fits}
 use mir.Syntax.{w64}
 use borrow.Author.Needs.{needs}
-use Rattle.chars.proofs.Extent.{encoded-size}
+use Rattle.chars.proofs.Extent.{encoded-size, encoded-four}
 use Rattle.copying.proofs.Copying.{Copying, begun, advance-kept, advance-coded, finished, too-small}
 use Rattle.tokens.proofs.Clean.{clean-zero, clean-full, clean-none}
+use Rattle.tokens.proofs.Skipping.{reaches}
 use Rattle.copying.proofs.copy.Statement.{statement}
 use Rattle.copying.proofs.copy.Tie as tie
 use Rattle.copying.proofs.copy.Reads as reads
@@ -19,7 +22,9 @@ use Rattle.chars.proofs.encoded_length.Reads as encoded-length-reads
 use Rattle.copying.proofs.ahead.Reads as ahead-reads
 use Rattle.copying.proofs.kept.Reads as kept-reads
 use Rattle.copying.proofs.next.Reads as next-reads
+use Rattle.copying.proofs.pair_within.Reads as pair-within-reads
 use Rattle.copying.proofs.put.Reads as put-reads
+use Rattle.copying.proofs.put_four.Reads as put-four-reads
 
 abbrev Inv-loop : tie.InvT-loop
 Inv-loop draft from n out₀ i₀ k₀ out i k = Copying draft from n out₀ out i k × Fits w64 i
@@ -35,32 +40,80 @@ loop-holds c =
     let a = c .before .before .before .args in
     (begun (a .draft .now) (a .from) (a .n) (a .out .now) (omega arith), c .before .before .before .fits .from)
 
+sub-pair-within : tie.Need-sub-pair-within Inv-loop μ-loop
+sub-pair-within c = c .loop .inv .0 .within
+
+pair-within-requires : tie.Need-pair-within-requires Inv-loop μ-loop
+pair-within-requires c κs = search needs
+
+encode-requires : tie.Need-encode-requires Inv-loop μ-loop
+encode-requires c κs = search needs
+
+put-four-requires : tie.Need-put-four-requires Inv-loop μ-loop
+put-four-requires c κs =
+    let l = c .before .before .before .before .before .loop .inv .0 in
+    let p = c .before .before .before .before .pair-within .ensures (c .before .before .before .if2 .taken) in
+    omega (arith, p .2, l .within, l .long, l .fits)
+
+add-k : tie.Need-add-k Inv-loop μ-loop
+add-k c =
+    let l = c .before .before .before .before .before .before .before .before .loop .inv .0 in
+    let p = c .before .before .before .before .before .before .before .pair-within .ensures (c .before .before .before .before .before .before .if2 .taken) in
+    omega (arith, p .2, l .within, c .before .before .before .before .before .before .before .before .before .before .before .before .fits .n)
+
+add-i : tie.Need-add-i Inv-loop μ-loop
+add-i c =
+    let p = c .before .before .before .before .before .before .before .pair-within .ensures (c .before .before .before .before .before .before .if2 .taken) in
+    omega (arith, reaches _ _ _ _ (p .0) .1)
+
+loop-less : tie.Need-loop-less Inv-loop μ-loop
+loop-less c =
+    let p = c .before .before .before .before .before .before .before .pair-within .ensures (c .before .before .before .before .before .before .if2 .taken) in
+    omega (arith, p .2)
+
+loop-again : tie.Need-loop-again Inv-loop μ-loop
+loop-again c =
+    let l = c .before .before .before .before .before .before .before .before .loop in
+    let two = c .before .before .before .before .before .before .before .pair-within in
+    let p = two .ensures (c .before .before .before .before .before .before .if2 .taken) in
+    let coded = c .before .before .before .before .before .encode in (
+      rw (c .before .before .put-four .ensures) (advance-coded _ _ _ _ _ _ _ (two .result) _ 4 (coded .result .bytes)
+          (l .inv .0) (p .0) (sym (ap length (encoded-four (two .result) (p .1)))) (p .2) (coded .ensures .0)),
+      omega (arith, reaches _ _ _ _ (p .0) .1),
+    )
+
 sub-ahead : tie.Need-sub-ahead Inv-loop μ-loop
-sub-ahead c = c .loop .inv .0 .within
+sub-ahead c = c .before .before .loop .inv .0 .within
 
 ahead-requires : tie.Need-ahead-requires Inv-loop μ-loop
 ahead-requires c κs = search needs
 
 kept-requires : tie.Need-kept-requires Inv-loop μ-loop
 kept-requires c κs =
-    let l = c .before .before .loop in
+    let l = c .before .before .before .before .loop in
     let ahead = c .before .ahead in
     (ahead .ensures .1, omega (arith, ahead .ensures .0, l .inv .0 .within, l .inv .0 .long, l .inv .0 .fits))
 
-add-k : tie.Need-add-k Inv-loop μ-loop
-add-k c =
-    let l = c .before .before .before .before .before .loop in
+add-k-2 : tie.Need-add-k-2 Inv-loop μ-loop
+add-k-2 c =
+    let l = c .before .before .before .before .before .before .before .loop in
     omega (arith, c .before .before .before .before .ahead .ensures .0, c .before .before .kept .ensures .0, l .inv .0 .within)
 
-add-i : tie.Need-add-i Inv-loop μ-loop
-add-i c =
-    let l = c .before .before .before .before .before .loop in
+add-i-2 : tie.Need-add-i-2 Inv-loop μ-loop
+add-i-2 c =
+    let l = c .before .before .before .before .before .before .before .loop in
     omega (arith, c .before .before .before .before .ahead .ensures .1, c .before .before .kept .ensures .0, l .inv .1)
 
 -- what stands there behind the bytes that stay as they are
 abbrev Behind : Type 0
 Behind =
     lts.After-kept (
+      pair-within-reads.Asked,
+      pair-within-reads.Learnt,
+      encode-reads.Asked,
+      encode-reads.Learnt,
+      put-four-reads.Asked,
+      put-four-reads.Learnt,
       ahead-reads.Asked,
       ahead-reads.Learnt,
       kept-reads.Asked,
@@ -69,8 +122,6 @@ Behind =
       next-reads.Learnt,
       encoded-length-reads.Asked,
       encoded-length-reads.Learnt,
-      encode-reads.Asked,
-      encode-reads.Learnt,
       put-reads.Asked,
       put-reads.Learnt,
     )
@@ -81,14 +132,14 @@ Behind =
 
 front :
     (c : Behind)
-    → Copying (c .before .before .before .before .before .before .before .args .draft .now)
-    (c .before .before .before .before .before .before .before .args .from)
-    (c .before .before .before .before .before .before .before .args .n)
-    (c .before .before .before .before .before .before .before .args .out .now) (c .kept .last .1 .1 .1 .0)
-    (c .before .before .before .loop .i + c .kept .result) (c .before .before .before .loop .k + c .kept .result)
+    → Copying (c .before .before .before .before .before .before .before .before .before .args .draft .now)
+    (c .before .before .before .before .before .before .before .before .before .args .from)
+    (c .before .before .before .before .before .before .before .before .before .args .n)
+    (c .before .before .before .before .before .before .before .before .before .args .out .now) (c .kept .last .1 .1 .1 .0)
+    (c .before .before .before .before .before .loop .i + c .kept .result) (c .before .before .before .before .before .loop .k + c .kept .result)
 front c =
-    let a = c .before .before .before .before .before .before .before .args in
-    let l = c .before .before .before .loop in
+    let a = c .before .before .before .before .before .before .before .before .before .args in
+    let l = c .before .before .before .before .before .loop in
     let ahead = c .before .before .ahead in
     advance-kept (a .draft .now) (a .from) (a .n) (a .out .now) (l .out) (l .i) (l .k) (ahead .result) (c .kept .result)
     (c .kept .last .1 .1 .1 .0) (l .inv .0) (ahead .ensures) (c .kept .ensures)
@@ -99,8 +150,8 @@ same-length c = front (c .before .before .before) .long
 returns-2 : tie.Need-returns-2 Inv-loop μ-loop
 returns-2 c =
     let h = c .before .before .before in
-    let n = h .before .before .before .before .before .before .before .args .n in
-    let none : n - (h .before .before .before .loop .k + h .kept .result) ≡ 0 = omega arith in
+    let n = h .before .before .before .before .before .before .before .before .before .args .n in
+    let none : n - (h .before .before .before .before .before .loop .k + h .kept .result) ≡ 0 = omega arith in
     finished _ _ _ _ _ _ _ (front h) (rw none (clean-zero _))
 
 next-requires : tie.Need-next-requires Inv-loop μ-loop
@@ -121,8 +172,8 @@ returns-3 c =
 encoded-length-requires : tie.Need-encoded-length-requires Inv-loop μ-loop
 encoded-length-requires c κs = search needs
 
-sub-if3 : tie.Need-sub-if3 Inv-loop μ-loop
-sub-if3 c = front (c .before .before .before .before .before .before .before .before) .within
+sub-if4 : tie.Need-sub-if4 Inv-loop μ-loop
+sub-if4 c = front (c .before .before .before .before .before .before .before .before) .within
 
 same-length-3 : tie.Need-same-length-3 Inv-loop μ-loop
 same-length-3 c = front (c .before .before .before .before .before .before .before .before .before) .long
@@ -134,44 +185,44 @@ returns-4 c =
     finished _ _ _ _ _ _ _ (front (c .before .before .before .before .before .before .before .before .before))
     (clean-full _ _ _ (g .0 .0) (g .0 .1 .0) is (omega (arith, c .before .encoded-length .ensures)))
 
-encode-requires : tie.Need-encode-requires Inv-loop μ-loop
-encode-requires c κs = search needs
+encode-requires-2 : tie.Need-encode-requires-2 Inv-loop μ-loop
+encode-requires-2 c κs = search needs
 
 put-requires : tie.Need-put-requires Inv-loop μ-loop
 put-requires c κs =
     let f = front (c .before .before .before .before .before .before .before .before .before .before .before .before) in
     let many = encoded-size (c .before .before .before .before .before .before .number .given .0 .0) in (
       omega (arith, c .before .before .before .before .encoded-length .ensures, many .1),
-      omega (arith, f .within, f .long, f .fits, c .before .before .before .if3 .left),
+      omega (arith, f .within, f .long, f .fits, c .before .before .before .if4 .left),
     )
 
-add-k-2 : tie.Need-add-k-2 Inv-loop μ-loop
-add-k-2 c =
+add-k-3 : tie.Need-add-k-3 Inv-loop μ-loop
+add-k-3 c =
     let h = c .before .before .before .before .before .before .before .before .before .before .before .before .before .before .before in
     let f = front h in
-    let small = h .before .before .before .before .before .before .before .fits .n in
-    omega (arith, f .within, c .before .before .before .before .before .before .if3 .left, small)
+    let small = h .before .before .before .before .before .before .before .before .before .fits .n in
+    omega (arith, f .within, c .before .before .before .before .before .before .if4 .left, small)
 
-loop-less : tie.Need-loop-less Inv-loop μ-loop
-loop-less c =
+loop-less-2 : tie.Need-loop-less-2 Inv-loop μ-loop
+loop-less-2 c =
     let h = c .before .before .before .before .before .before .before .before .before .before .before .before .before .before .before in
     let f = front h in
     let many = encoded-size (c .before .before .before .before .before .before .before .before .before .number .given .0 .0) in
     let size = c .before .before .before .before .before .before .before .encoded-length .ensures in
-    omega (arith, f .within, c .before .before .before .before .before .before .if3 .left, size, many .0)
+    omega (arith, f .within, c .before .before .before .before .before .before .if4 .left, size, many .0)
 
-loop-again : tie.Need-loop-again Inv-loop μ-loop
-loop-again c =
+loop-again-2 : tie.Need-loop-again-2 Inv-loop μ-loop
+loop-again-2 c =
     let h = c .before .before .before .before .before .before .before .before .before .before .before .before .before .before .before in
     let f = front h in
     let g = c .before .before .before .before .before .before .before .before .before .number .given in
     let is = sym (c .before .before .before .before .before .before .before .before .before .before .before .next .ensures)
     ∙ g .1 in
     let after-encoded-length = c .before .before .before .before .before .before .before .encoded-length in
-    let after-encode = c .before .before .before .before .before .encode in (
+    let after-encode = c .before .before .before .before .before .encode2 in (
       rw (c .before .before .put .ensures) (advance-coded _ _ _ _ _ _ _ (g .0 .0) (g .0 .1 .0) (after-encoded-length .result)
           (after-encode .result .bytes) f is (after-encoded-length .ensures)
-          (c .before .before .before .before .before .before .if3 .left) (after-encode .ensures .0)),
+          (c .before .before .before .before .before .before .if4 .left) (after-encode .ensures .0)),
       omega (arith, c .before .before .before .before .before .before .before .before .known-told .given),
     )
 
@@ -183,11 +234,19 @@ copy-spec =
     μ-loop
     returns
     loop-holds
+    sub-pair-within
+    pair-within-requires
+    encode-requires
+    put-four-requires
+    add-k
+    add-i
+    loop-less
+    loop-again
     sub-ahead
     ahead-requires
     kept-requires
-    add-k
-    add-i
+    add-k-2
+    add-i-2
     same-length
     returns-2
     next-requires
@@ -195,11 +254,11 @@ copy-spec =
     same-length-2
     returns-3
     encoded-length-requires
-    sub-if3
+    sub-if4
     same-length-3
     returns-4
-    encode-requires
+    encode-requires-2
     put-requires
-    add-k-2
-    loop-less
-    loop-again)
+    add-k-3
+    loop-less-2
+    loop-again-2)

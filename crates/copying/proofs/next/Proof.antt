@@ -13,10 +13,10 @@ pair-requires c κs = search needs
 add-t5 : tie.Need-add-t5
 add-t5 c =
     let a = c .before .before .before .args in
-    omega (arith, reaches (a .draft .now) (a .i) (c .before .pair .result) (a .i + 6) (c .before .pair .ensures (c .if1 .taken)) .1)
+    omega (arith, reaches (a .draft .now) (a .i) (c .before .pair .result) (a .i + 6) (c .before .pair .ensures (c .if1 .taken) .0) .1)
 
 returns : tie.Need-returns
-returns c = sym (c .before .pair .ensures (c .if1 .taken))
+returns c = sym (c .before .pair .ensures (c .if1 .taken) .0)
 
 line-end-requires : tie.Need-line-end-requires
 line-end-requires c κs = search needs

@@ -48,9 +48,11 @@ returns-5 c = λ h.
     let long : a .i + 6 ≤ length (a .draft .now) = omega arith in
     let hl : high .result < 0x400 = omega (arith, high .ensures .0, c .before .before .if3 .left) in
     let ll : low .result < 0x400 = omega (arith, low .ensures .0, c .if4 .left) in
-    let one = high .ensures .1 hl in
-    two-surrogates (a .draft .now) (a .i) (a .i + 3 + 3) (high .result) (low .result) long (omega arith) hl ll (one .0) (one .1)
-    (low .ensures .1 ll .1)
+    let one = high .ensures .1 hl in (
+      two-surrogates (a .draft .now) (a .i) (a .i + 3 + 3) (high .result) (low .result) long (omega arith) hl ll (one .0) (one .1)
+          (low .ensures .1 ll .1),
+      omega arith,
+    )
 
 pub pair-spec : {M : Type 1} → statement M
 pair-spec =
