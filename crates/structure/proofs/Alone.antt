@@ -111,57 +111,59 @@ Ended s list groups place r list′ =
 
 module _ {s : State} {list groups : List ℕ} {place : ℕ} {r : Step} where
   -- behind `[` it brings a group: 17 and 18 for that one, and else that one is open
-  module _ (opened : s .mode ≡ 1) where
-    pub ended-17 : 64 ≤ s .depth → r ≡ record { number = 17; state = s } → Ended s list groups place r list
-    unfolding took
-    ended-17 deep is text ready =
-        rw is (too-many s list text groups place false (λ q. judged-last q place) (rw opened (le-leb 64 (s .depth) deep)) groups)
+  pub ended-17 : r ≡ record { number = 17; state = s } → s .mode ≡ 1 → 64 ≤ s .depth → Ended s list groups place r list
+  unfolding took
+  ended-17 is opened deep text ready =
+      rw is (too-many s list text groups place false (λ q. judged-last q place) (rw opened (le-leb 64 (s .depth) deep)) groups)
 
-    module _ (shallow : s .depth < 64) where
-      pub ended-18 :
-          length list - 6 * s .entities < 6 → r ≡ record { number = 18; state = s } → Ended s list groups place r list
-      unfolding took
-      ended-18 few is text ready =
-          rw is
-          (no-room s list text groups place false (λ q. judged-last q place) (λ u. shallow) (ready .held)
-          (rw opened (lt-ltb (length list - 6 * s .entities) 6 few)) groups)
+  pub ended-18 :
+      r ≡ record { number = 18; state = s } → s .mode ≡ 1 → s .depth < 64 → length list - 6 * s .entities < 6
+      → Ended s list groups place r list
+  unfolding took
+  ended-18 is opened shallow few text ready =
+      rw is
+      (no-room s list text groups place false (λ q. judged-last q place) (λ u. shallow) (ready .held)
+      (rw opened (lt-ltb (length list - 6 * s .entities) 6 few)) groups)
 
-      pub ended-array :
-          6 ≤ length list - 6 * s .entities → r ≡ record { number = 13; state = s } → Ended s list groups place r list
-      unfolding took handled readerOf roomLeft within-groups judged-last fitted agrees
-      ended-array many is text ready =
-          rw (
-            is,
-            opened,
-            lt-ltb (length (openGroups groups (s .depth))) 64 (omega (arith, so-many groups (s .depth))),
-            ne-eqb (length list / 6 - s .entities) 0 (λ none. omega (arith, ready .held)),
-            lt-ltb 0 (length (1 ∷ openGroups groups (s .depth))) (omega arith),
-          ) (refl, refl, refl, refl, refl)
+  pub ended-array :
+      r ≡ record { number = 13; state = s } → s .mode ≡ 1 → s .depth < 64 → 6 ≤ length list - 6 * s .entities
+      → Ended s list groups place r list
+  unfolding took handled readerOf roomLeft within-groups judged-last fitted agrees
+  ended-array is opened shallow many text ready =
+      rw (
+        is,
+        opened,
+        lt-ltb (length (openGroups groups (s .depth))) 64 (omega (arith, so-many groups (s .depth))),
+        ne-eqb (length list / 6 - s .entities) 0 (λ none. omega (arith, ready .held)),
+        lt-ltb 0 (length (1 ∷ openGroups groups (s .depth))) (omega arith),
+      ) (refl, refl, refl, refl, refl)
 
-  pub ended-metacommand : s .mode ≡ 2 → r ≡ record { number = 12; state = s } → Ended s list groups place r list
+  pub ended-metacommand : r ≡ record { number = 12; state = s } → s .mode ≡ 2 → Ended s list groups place r list
   unfolding took handled readerOf judged-last fitted agrees
-  ended-metacommand m is text ready = rw (is, m) (refl, refl, refl, refl, refl)
+  ended-metacommand is m text ready = rw (is, m) (refl, refl, refl, refl, refl)
 
-  module _ (unopened : s .mode ≡ 1 → ⊥) (regularly : s .mode ≡ 2 → ⊥) where
-    pub ended-open : (s .depth ≡ 0 → ⊥) → r ≡ record { number = 13; state = s } → Ended s list groups place r list
-    unfolding took handled readerOf judged-last fitted agrees
-    ended-open deep is text ready =
-        rw (
-          is,
-          ne-eqb (s .mode) 1 unopened,
-          ne-eqb (s .mode) 2 regularly,
-          lt-ltb 0 (length (openGroups groups (s .depth))) (omega (arith, so-many groups (s .depth))),
-        ) (refl, refl, refl, refl, refl)
+  pub ended-open :
+      r ≡ record { number = 13; state = s } → (s .mode ≡ 1 → ⊥) → (s .mode ≡ 2 → ⊥) → (s .depth ≡ 0 → ⊥)
+      → Ended s list groups place r list
+  unfolding took handled readerOf judged-last fitted agrees
+  ended-open is unopened regularly deep text ready =
+      rw (
+        is,
+        ne-eqb (s .mode) 1 unopened,
+        ne-eqb (s .mode) 2 regularly,
+        lt-ltb 0 (length (openGroups groups (s .depth))) (omega (arith, so-many groups (s .depth))),
+      ) (refl, refl, refl, refl, refl)
 
-    -- nothing is open before it, and nothing is behind it
-    pub ended :
-        {list′ : List ℕ} → s .depth ≡ 0 → Fits s list (counting 17 place 0 ∷ []) 0 0 list′ r → Ended s list groups place r list′
-    unfolding handled readerOf judged-last adds bare bares counting kindOf openGroups below
-    ended {list′} flat x text ready =
-        let empty = empty-bares 0 place (counting 17 place 0 ∷ []) (empty-counting 17 place 0 [] nothing) in
-        let simple = ne-eqb (s .mode) 1 unopened in
-        let plain = ne-eqb (s .mode) 2 regularly in
-        rw (simple, plain, flat)
-        (rw (simple, plain, flat) at
-        (fits-agrees s list text groups groups place 0 (counting 17 place 0 ∷ []) (readerOf s groups) empty ready 0 0 list′ r x
-        (rw (simple, plain, flat)) (omega arith) (ready .array) tt))
+  -- nothing is open before it, and nothing is behind it
+  pub ended :
+      {list′ : List ℕ} → Fits s list (counting 17 place 0 ∷ []) 0 0 list′ r → (s .mode ≡ 1 → ⊥) → (s .mode ≡ 2 → ⊥) → s .depth ≡ 0
+      → Ended s list groups place r list′
+  unfolding handled readerOf judged-last adds bare bares counting kindOf openGroups below
+  ended {list′} x unopened regularly flat text ready =
+      let empty = empty-bares 0 place (counting 17 place 0 ∷ []) (empty-counting 17 place 0 [] nothing) in
+      let simple = ne-eqb (s .mode) 1 unopened in
+      let plain = ne-eqb (s .mode) 2 regularly in
+      rw (simple, plain, flat)
+      (rw (simple, plain, flat) at
+      (fits-agrees s list text groups groups place 0 (counting 17 place 0 ∷ []) (readerOf s groups) empty ready 0 0 list′ r x
+      (rw (simple, plain, flat)) (omega arith) (ready .array) tt))
