@@ -31,24 +31,44 @@ returns c =
     let a = c .before .before .before .args in
     rw (c .if1 .taken, clean-zero (streamAt (a .draft .now) (a .from)))
 
+shared-slice-read-if2 : tie.Need-shared-slice-read-if2 Inv-loop μ-loop
+shared-slice-read-if2 c =
+    let a = c .before .before .before .before .args in
+    let p = c .before .before .before .before .pre in
+    let some : 0 < a .n = omega (arith, c .before .if1 .left) in
+    let first = begun (a .draft .now) (a .from) (a .n) (a .out .now) (p .0) in
+    omega (arith, room (a .draft .now) (a .from) (a .n) (a .out .now) (p .1) (a .out .now) (a .from) 0 first some)
+
+copy-requires : tie.Need-copy-requires Inv-loop μ-loop
+copy-requires c κs = search needs
+
+same-length : tie.Need-same-length Inv-loop μ-loop
+same-length c = search needs
+
+returns-2 : tie.Need-returns-2 Inv-loop μ-loop
+returns-2 c =
+    let a = c .before .before .before .before .before .before .before .before .before .args in
+    let p = c .before .before .before .before .before .before .before .before .before .pre in
+    c .before .before .copy .ensures .1 ∙ copied-front (a .draft .now) (a .from) (a .n) (a .out .now) (p .0) (p .1)
+
 loop-holds : tie.Need-loop-holds Inv-loop μ-loop
 loop-holds c =
-    let a = c .before .before .before .args in
-    let p = c .before .before .before .pre in
-    (begun (a .draft .now) (a .from) (a .n) (a .out .now) (p .0), omega (arith, c .if1 .left), p .1)
+    let a = c .before .before .before .before .before .args in
+    let p = c .before .before .before .before .before .pre in
+    (begun (a .draft .now) (a .from) (a .n) (a .out .now) (p .0), omega (arith, c .before .before .if1 .left), p .1)
 
 sub-past-settled : tie.Need-sub-past-settled Inv-loop μ-loop
 sub-past-settled c = omega (arith, c .loop .inv .1)
 
 add-past-settled : tie.Need-add-past-settled Inv-loop μ-loop
 add-past-settled c =
-    let a = c .before .before .before .before .args in
+    let a = c .before .before .before .before .before .before .args in
     let l = c .loop in
     omega (arith, room (a .draft .now) (a .from) (a .n) (a .out .now) (l .inv .2) (l .out) (l .i) (l .k) (l .inv .0) (l .inv .1))
 
 past-settled-requires : tie.Need-past-settled-requires Inv-loop μ-loop
 past-settled-requires c κs =
-    let a = c .before .before .before .before .args in
+    let a = c .before .before .before .before .before .before .args in
     let l = c .loop in
     (omega arith, room (a .draft .now) (a .from) (a .n) (a .out .now) (l .inv .2) (l .out) (l .i) (l .k) (l .inv .0) (l .inv .1))
 
@@ -68,7 +88,7 @@ part-long-end c = search needs
 
 long-requires : tie.Need-long-requires Inv-loop μ-loop
 long-requires c κs =
-    let a = c .before .before .before .before .before .before .args in
+    let a = c .before .before .before .before .before .before .before .before .args in
     let l = c .before .before .loop in
     let p = c .before .past-settled .ensures in
     let there = room (a .draft .now) (a .from) (a .n) (a .out .now) (l .inv .2) (l .out) (l .i) (l .k) (l .inv .0) (l .inv .1) in (
@@ -86,18 +106,18 @@ long-requires c κs =
 add-k : tie.Need-add-k Inv-loop μ-loop
 add-k c =
     let l = c .before .before .before .before .before .loop in
-    omega (arith, c .before .before .before .before .past-settled .ensures .1, l .inv .1, c .before .before .before .before .before .before .before .before .before .fits .n)
+    omega (arith, c .before .before .before .before .past-settled .ensures .1, l .inv .1, c .before .before .before .before .before .before .before .before .before .before .before .fits .n)
 
 -- what stands there behind the bytes that are copied as they stand
 abbrev Behind : Type 0
 Behind =
     lts.After-long (
+      copy-reads.Asked,
+      copy-reads.Learnt,
       past-settled-reads.Asked,
       past-settled-reads.Learnt,
       long-reads.Asked,
       long-reads.Learnt,
-      copy-reads.Asked,
-      copy-reads.Learnt,
     )
     reads.Pre
     reads.Post
@@ -106,15 +126,15 @@ Behind =
 
 front :
     (h : Behind)
-    → Copying (h .before .before .before .before .before .before .before .args .draft .now)
-    (h .before .before .before .before .before .before .before .args .from)
-    (h .before .before .before .before .before .before .before .args .n)
-    (h .before .before .before .before .before .before .before .args .out .now)
+    → Copying (h .before .before .before .before .before .before .before .before .before .args .draft .now)
+    (h .before .before .before .before .before .before .before .before .before .args .from)
+    (h .before .before .before .before .before .before .before .before .before .args .n)
+    (h .before .before .before .before .before .before .before .before .before .args .out .now)
     (putMid (h .before .before .before .loop .k) (length (h .before .before .before .loop .out) - h .before .before .before .loop .k)
     (h .before .before .before .loop .out) (h .long .last .1 .1 .1 .0)) (h .before .before .past-settled .result)
     (h .before .before .before .loop .k + (h .before .before .past-settled .result - h .before .before .before .loop .i))
 front h =
-    let a = h .before .before .before .before .before .before .before .args in
+    let a = h .before .before .before .before .before .before .before .before .before .args in
     let l = h .before .before .before .loop in
     let p = h .before .before .past-settled in
     let m = p .result - l .i in
@@ -127,25 +147,25 @@ front h =
 more :
     (h : Behind)
     → (h .before .before .before .loop .k + (h .before .before .past-settled .result - h .before .before .before .loop .i)
-    ≡ h .before .before .before .before .before .before .before .args .n → ⊥)
-    → h .before .before .past-settled .result < length (h .before .before .before .before .before .before .before .args .draft .now)
+    ≡ h .before .before .before .before .before .before .before .before .before .args .n → ⊥)
+    → h .before .before .past-settled .result < length (h .before .before .before .before .before .before .before .before .before .args .draft .now)
 more h not-all =
-    let a = h .before .before .before .before .before .before .before .args in
+    let a = h .before .before .before .before .before .before .before .before .before .args in
     let l = h .before .before .before .loop in
     let p = h .before .before .past-settled .ensures in
     let there = room (a .draft .now) (a .from) (a .n) (a .out .now) (l .inv .2) (l .out) (l .i) (l .k) (l .inv .0) (l .inv .1) in
     omega (arith, p .0 .on, p .1, l .inv .1)
 
-same-length : tie.Need-same-length Inv-loop μ-loop
-same-length c = front (c .before .before .before) .long
+same-length-2 : tie.Need-same-length-2 Inv-loop μ-loop
+same-length-2 c = front (c .before .before .before) .long
 
-returns-2 : tie.Need-returns-2 Inv-loop μ-loop
-returns-2 c =
+returns-3 : tie.Need-returns-3 Inv-loop μ-loop
+returns-3 c =
     let h = c .before .before .before in
-    copied-all _ _ _ _ (h .before .before .before .loop .inv .2) _ _ _ (front h) (c .if2 .taken)
+    copied-all _ _ _ _ (h .before .before .before .loop .inv .2) _ _ _ (front h) (c .if3 .taken)
 
-shared-slice-read-if3 : tie.Need-shared-slice-read-if3 Inv-loop μ-loop
-shared-slice-read-if3 c = more (c .before .before .before .before) (c .before .if2 .left)
+shared-slice-read-if4 : tie.Need-shared-slice-read-if4 Inv-loop μ-loop
+shared-slice-read-if4 c = more (c .before .before .before .before) (c .before .if3 .left)
 
 sub-copy : tie.Need-sub-copy Inv-loop μ-loop
 sub-copy c = front (c .before .before .before .before .before) .within
@@ -159,16 +179,16 @@ part-copy-start c = search needs
 part-copy-end : tie.Need-part-copy-end Inv-loop μ-loop
 part-copy-end c = search needs
 
-copy-requires : tie.Need-copy-requires Inv-loop μ-loop
-copy-requires c κs = search needs
+copy-requires-2 : tie.Need-copy-requires-2 Inv-loop μ-loop
+copy-requires-2 c κs = search needs
 
-same-length-2 : tie.Need-same-length-2 Inv-loop μ-loop
-same-length-2 c = search (needs, front (c .before .before .before .before .before .before .before .before .before) .long)
+same-length-3 : tie.Need-same-length-3 Inv-loop μ-loop
+same-length-3 c = search (needs, front (c .before .before .before .before .before .before .before .before .before) .long)
 
-returns-3 : tie.Need-returns-3 Inv-loop μ-loop
-returns-3 c =
+returns-4 : tie.Need-returns-4 Inv-loop μ-loop
+returns-4 c =
     let h = c .before .before .before .before .before .before .before .before .before in
-    let a = h .before .before .before .before .before .before .before .args in
+    let a = h .before .before .before .before .before .before .before .before .before .args in
     let l = h .before .before .before .loop in
     let r = h .before .before .past-settled .result in
     let k = l .k + (r - l .i) in
@@ -176,9 +196,9 @@ returns-3 c =
     let out = putMid (l .k) (length (l .out) - l .k) (l .out) (h .long .last .1 .1 .1 .0) in
     let long = rest-whole (a .draft .now) (a .from) (a .n) (a .out .now) (l .inv .2) out r k f in
     copied-rest (a .draft .now) (a .from) (a .n) (a .out .now) (l .inv .2) out r k f _
-    (part-filled (clean (a .n - k) (streamAt (a .draft .now) r)) (a .n - k) out k (c .before .before .copy .last .1 .1 .1 .0)
+    (part-filled (clean (a .n - k) (streamAt (a .draft .now) r)) (a .n - k) out k (c .before .before .copy2 .last .1 .1 .1 .0)
     (omega (arith, f .within, f .long, f .fits))
-    (c .before .before .copy .ensures .1 ∙ copied-front (a .draft .now) r (a .n - k) _ (omega (
+    (c .before .before .copy2 .ensures .1 ∙ copied-front (a .draft .now) r (a .n - k) _ (omega (
       arith,
       f .within,
       f .long,
@@ -188,12 +208,12 @@ returns-3 c =
     )) long))
 
 add-i : tie.Need-add-i Inv-loop μ-loop
-add-i c = omega (arith, more (c .before .before .before .before .before) (c .before .before .if2 .left))
+add-i c = omega (arith, more (c .before .before .before .before .before) (c .before .before .if3 .left))
 
 loop-less : tie.Need-loop-less Inv-loop μ-loop
 loop-less c =
     let h = c .before .before .before .before .before in
-    omega (arith, more h (c .before .before .if2 .left), h .before .before .past-settled .ensures .0 .on)
+    omega (arith, more h (c .before .before .if3 .left), h .before .before .past-settled .ensures .0 .on)
 
 loop-again : tie.Need-loop-again Inv-loop μ-loop
 loop-again c =
@@ -201,9 +221,9 @@ loop-again c =
     let l = h .before .before .before .loop in
     let f = front h in
     let less :
-    l .k + (h .before .before .past-settled .result - l .i) < h .before .before .before .before .before .before .before .args .n =
-    omega (arith, f .within, c .before .before .if2 .left) in
-    (past-return _ _ _ _ (l .inv .2) _ _ _ f less (c .if3 .left), less, l .inv .2)
+    l .k + (h .before .before .past-settled .result - l .i) < h .before .before .before .before .before .before .before .before .before .args .n =
+    omega (arith, f .within, c .before .before .if3 .left) in
+    (past-return _ _ _ _ (l .inv .2) _ _ _ f less (c .if4 .left), less, l .inv .2)
 
 pub lines-spec : {M : Type 1} → statement M
 lines-spec =
@@ -212,6 +232,10 @@ lines-spec =
     Inv-loop
     μ-loop
     returns
+    shared-slice-read-if2
+    copy-requires
+    same-length
+    returns-2
     loop-holds
     sub-past-settled
     add-past-settled
@@ -222,16 +246,16 @@ lines-spec =
     part-long-end
     long-requires
     add-k
-    same-length
-    returns-2
-    shared-slice-read-if3
+    same-length-2
+    returns-3
+    shared-slice-read-if4
     sub-copy
     sub-copy-2
     part-copy-start
     part-copy-end
-    copy-requires
-    same-length-2
-    returns-3
+    copy-requires-2
+    same-length-3
+    returns-4
     add-i
     loop-less
     loop-again)
