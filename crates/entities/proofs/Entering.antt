@@ -7,7 +7,7 @@ use Prim.Native.Nat.{ℕ, _+_, _-_, _*_, _<_, _≤_, _/_}
 use native.Mathlib.Omega.{arith}
 use lib.Dec.{leb, ltb, eqb}
 use lib.ListN.{length}
-use borrow.Author.Tests.{eq-eqb, ne-eqb, lt-ltb, le-ltb, leb-true, leb-false, ltb-true, ltb-false}
+use borrow.Author.Tests.{eq-eqb, ne-eqb, lt-ltb, le-ltb, leb-true, ltb-true, ltb-false}
 use Rattle.chars.specs.Choice.{if_then_else_}
 use Rattle.chars.specs.Limits.{limits}
 use Rattle.chars.proofs.Cases.{either, both}
@@ -116,7 +116,3 @@ module _ (brings : Bool) (s : State) (list text groups : List ℕ) (place : ℕ)
           small = omega (arith, ready .small, text-entered);
           numbers = numbers-entered (ready .numbers);
         }
-
--- a group that is not one too many
-pub not-crowded : (brings : Bool) (depth : ℕ) → (brings && leb 64 depth) ≡ false → brings ≡ true → depth < 64
-not-crowded brings depth f t = leb-false 64 depth (rw t at f)

@@ -25,12 +25,6 @@ goes κs given a b x y = one
 pub array-begins : OneAnswer fn.arrays.array_begins.Kinds.ps fn.arrays.array_begins.Kinds.r fn.arrays.array_begins.Reads.Post
 array-begins κs given a b x y = one
 
-pub crowded : OneAnswer fn.brought.crowded.Kinds.ps fn.brought.crowded.Kinds.r fn.brought.crowded.Reads.Post
-crowded κs given a b x y = one
-
-pub roomless : OneAnswer fn.brought.roomless.Kinds.ps fn.brought.roomless.Kinds.r fn.brought.roomless.Reads.Post
-roomless κs given a b x y = one
-
 -- what fits is written, and else 18
 fit :
     (s : State) (list : List ℕ) (es : List Entity) (mode depth : ℕ) (l m : List ℕ) (a b : Step) → Fits s list es mode depth l a

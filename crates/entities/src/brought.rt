@@ -1,37 +1,13 @@
 // The begin group that a token behind `[` brings, unless it is `]`.
 ghost use mathlib.Core.Path.{_≡_};
-ghost use mathlib.Core.Bool.{_&&_};
 ghost use mathlib.Core.List.{_∷_};
-ghost use Prim.Native.Nat.{_+_, _-_, _*_, _<_, _≤_, _^_};
-ghost use lib.Dec.{leb, ltb};
+ghost use Prim.Native.Nat.{_+_, _*_, _<_, _≤_, _^_};
 ghost use lib.ListN.{length};
 ghost use Rattle.entities.specs.Judging.{bares, written};
 ghost use Rattle.entities.specs.Stepping.{openGroups};
 use crate::open::push;
 use crate::state::State;
-use chars::limits;
 use holding::rows::row;
-
-// Whether it is one too many.
-pub fn crowded(brings: bool, depth: usize) -> bool
-    ensures { λ r. ⌜ r ≡ (brings && leb 64 depth) ⌝ }
-{
-    if !brings {
-        return false;
-    }
-    limits::GROUPS <= depth
-}
-
-// Whether there is no room for it.
-pub fn roomless(list: &[u32], brings: bool, entities: usize) -> bool
-    requires { ⌜ 6 * entities ≤ length (now list) ⌝ }
-    ensures { λ r. ⌜ r ≡ (brings && ltb (length (now (list .entry)) - 6 * entities) 6) ⌝ }
-{
-    if !brings {
-        return false;
-    }
-    list.len() - 6 * entities < 6
-}
 
 // Writes it, and answers the state in which the token behind it is written: the group is held and open.
 pub fn begin_group(list: &mut [u32], groups: &mut [u16], s: State, place: usize) -> State
