@@ -30,6 +30,10 @@ const kind kinds[KINDS] = {
     {"prefixed", "strings with a prefix", put_prefixed, BAR, 0},
     {"accented", "letters of two bytes in strings", put_accented, BAR, 0},
     {"short-comments", "short comments", put_short_comment, BAR, 0},
+    {"compound", "names with `_` in them", put_compound, BAR, 0},
+    {"dashes", "signs of three bytes in strings", put_dashes, BAR, 0},
+    {"lines", "CR LF and letters of two bytes in strings", put_lines, BAR, 0},
+    {"accented-comments", "letters of two bytes in comments", put_accented_comment, BAR, 0},
     {"23", "a draft of 23 bytes", put_23_bytes, BAR, 23},
 };
 

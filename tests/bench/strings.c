@@ -124,18 +124,56 @@ void put_prefixed(making *m)
     put_space(m);
 }
 
+/* Some words of letters, each ended by a character from `first` on, one of thirty-two. */
+static void put_accents(making *m, uint32_t first)
+{
+    for (size_t left = 1 + below(&m->l, 4); left > 0; left--) {
+        put_letters(m, 1 + below(&m->l, 5));
+        put_character(m->d, first + (uint32_t)below(&m->l, 0x20));
+    }
+}
+
 /* Letters, and now and then one of two bytes. */
 void put_accented(making *m)
 {
     const bool curly = one_in(&m->l, 2);
 
     put_opening(m, curly);
-    for (size_t left = 1 + below(&m->l, 4); left > 0; left--) {
-        put_letters(m, 1 + below(&m->l, 5));
-        put_character(m->d, 0xE0 + (uint32_t)below(&m->l, 0x20));
+    put_accents(m, 0xE0);
+    put_closing(m, curly);
+    put_space(m);
+}
+
+/* The same with a dash or another sign of three bytes. */
+void put_dashes(making *m)
+{
+    const bool curly = one_in(&m->l, 2);
+
+    put_opening(m, curly);
+    put_accents(m, 0x2010);
+    put_closing(m, curly);
+    put_space(m);
+}
+
+/* Lines of such letters, ended by CR LF. */
+void put_lines(making *m)
+{
+    const bool curly = one_in(&m->l, 2);
+
+    put_opening(m, curly);
+    for (size_t left = 1 + below(&m->l, 3); left > 0; left--) {
+        put_accents(m, 0xE0);
+        put_bytes(m->d, "\r\n", 2);
     }
     put_closing(m, curly);
     put_space(m);
+}
+
+void put_accented_comment(making *m)
+{
+    put_byte(m->d, '#');
+    put_accents(m, 0xE0);
+    put_byte(m->d, '\n');
 }
 
 void put_short_comment(making *m)

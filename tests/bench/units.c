@@ -30,6 +30,17 @@ void put_signed_name(making *m)
     put_space(m);
 }
 
+/* Two or three words in one, as weavers name their motifs. */
+void put_compound(making *m)
+{
+    for (size_t left = 1 + below(&m->l, 2); left > 0; left--) {
+        put_letters(m, 2 + below(&m->l, 5));
+        put_byte(m->d, '_');
+    }
+    put_letters(m, 2 + below(&m->l, 5));
+    put_space(m);
+}
+
 /* One sign or two. */
 void put_operator(making *m)
 {
