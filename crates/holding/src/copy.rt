@@ -87,7 +87,7 @@ pub fn long(draft: &[u8], from: usize, n: usize, out: &mut [u8])
     eight_over(draft, from + last, out, last);
 }
 
-// The same for words, which are few bytes nearly always: the compiler puts this into its one caller, and `long` stays a call.
+// The same for words and data, which are few bytes more often than not: the compiler puts this into its callers, and `long` stays a call.
 pub fn short(draft: &[u8], from: usize, n: usize, out: &mut [u8])
     requires { ⌜ (n ≤ length (drop from (now draft))) × (n ≤ length (now out)) ⌝ }
     ensures { λ r. ⌜ now (out .exit) ≡ take n (drop from (now (draft .entry))) ++ drop n (now (out .entry)) ⌝ }

@@ -5,7 +5,6 @@ ghost use Prim.Native.Nat.{_+_, _≤_};
 ghost use lib.ListN.{length, take, drop};
 ghost use Rattle.chars.specs.Stream.{streamAt, clean};
 ghost use Rattle.holding.specs.Text.{unchanged};
-use crate::copy::long;
 use crate::copy::short;
 use crate::lines::lines;
 
@@ -26,7 +25,7 @@ pub fn fill(draft: &[u8], from: usize, n: usize, raw: usize, text: &mut [u8], us
         (now (text .entry))) ⌝ }
 {
     if raw == n {
-        long(draft, from, n, &mut text[used..]);
+        short(draft, from, n, &mut text[used..]);
     } else {
         lines(draft, from, n, &mut text[used..]);
     }

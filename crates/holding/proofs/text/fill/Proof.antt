@@ -9,17 +9,17 @@ use borrow.Author.Needs.{needs}
 use Rattle.holding.proofs.text.fill.Statement.{statement}
 use Rattle.holding.proofs.text.fill.Tie as tie
 
-sub-long : tie.Need-sub-long
-sub-long c = search needs
+sub-short : tie.Need-sub-short
+sub-short c = search needs
 
-part-long-start : tie.Need-part-long-start
-part-long-start c = search needs
+part-short-start : tie.Need-part-short-start
+part-short-start c = search needs
 
-part-long-end : tie.Need-part-long-end
-part-long-end c = search needs
+part-short-end : tie.Need-part-short-end
+part-short-end c = search needs
 
-long-requires : tie.Need-long-requires
-long-requires c κs =
+short-requires : tie.Need-short-requires
+short-requires c κs =
     let a = c .before .before .before .before .args in
     let p = c .before .before .before .before .pre in
     (omega (arith, ap length (p .2 (c .before .if1 .taken)), p .1, length-take (a .n) (drop (a .from) (a .draft .now))), search needs)
@@ -44,7 +44,7 @@ returns c =
     let a = c .before .before .before .before .before .before .before .args in
     let p = c .before .before .before .before .before .before .before .pre in
     rw (p .2 (c .before .before .before .before .if1 .taken)) (part-filled (take (a .n) (drop (a .from) (a .draft .now))) (a .n)
-    (a .text .now) (a .used) (c .before .before .long .last .1 .1 .1 .0) (p .0) (c .before .before .long .ensures))
+    (a .text .now) (a .used) (c .before .before .short .last .1 .1 .1 .0) (p .0) (c .before .before .short .ensures))
 
 same-length-2 : tie.Need-same-length-2
 same-length-2 c = search needs
@@ -60,10 +60,10 @@ pub fill-spec : {M : Type 1} → statement M
 fill-spec =
     tie.close
     (tie.spec
-    sub-long
-    part-long-start
-    part-long-end
-    long-requires
+    sub-short
+    part-short-start
+    part-short-end
+    short-requires
     sub-lines
     part-lines-start
     part-lines-end
