@@ -299,7 +299,9 @@ module _ (draft : List ℕ) (from n : ℕ) (before : List ℕ) (whole : length (
         let long : length bytes ≡ m = length-take-le m (drop i draft) (omega (arith, length-drop i draft)) in
         let e = run draft (reach .spans) m (omega arith) (λ j g l. p .0 .each j g (omega arith)) (λ l. rw at (p .2 (omega arith))) in
         let up-to : clean (n - k) (streamAt draft i) ≡ bytes ++ clean (n - k - length bytes) (streamAt draft r) =
-        e ∙ (ap (λ p. bytes ++ clean (n - k - m) (streamAt draft p)) at ∙ ap (λ j. bytes ++ clean (n - k - j) (streamAt draft r)) (sym long)) in
+        e
+        ∙ (ap (λ p. bytes ++ clean (n - k - m) (streamAt draft p)) at
+        ∙ ap (λ j. bytes ++ clean (n - k - j) (streamAt draft r)) (sym long)) in
         rw long at (advance-by draft from n before out i k r bytes c up-to (omega (arith, long)) out′
         (is ∙ (sym (append-assoc (take k out) bytes (drop (k + m) out)) ∙ ap (λ j. (take k out ++ bytes) ++ drop (k + j) out) (sym long))))
 

@@ -8,8 +8,8 @@ use crate::copy::long;
 use copying::copy;
 use runs::settled::past_settled;
 
-// Clean bytes to the front of a part. What stands before the next CR or ED is copied as it stands; CR is left out, since its LF follows; and
-// from ED on, which may begin a surrogate, the rest of the part is lent to the copier. Data that begins with ED asks for the copier by
+// Clean bytes to the front of a part. What stands before the next CR or ED is copied as it stands; CR is left out, since its LF follows;
+// and from ED on, which may begin a surrogate, the rest of the part is lent to the copier. Data that begins with ED asks for the copier by
 // itself, so that it stays a call, and the loop of reading stays short.
 pub fn lines(draft: &[u8], from: usize, n: usize, out: &mut [u8])
     requires { ⌜ (n ≤ length (now out)) × (length (clean n (streamAt (now draft) from)) ≡ n) ⌝ }

@@ -58,17 +58,21 @@ put-four-requires c κs =
 add-k : tie.Need-add-k Inv-loop μ-loop
 add-k c =
     let l = c .before .before .before .before .before .before .before .before .loop .inv .0 in
-    let p = c .before .before .before .before .before .before .before .pair-within .ensures (c .before .before .before .before .before .before .if2 .taken) in
-    omega (arith, p .2, l .within, c .before .before .before .before .before .before .before .before .before .before .before .before .fits .n)
+    let t = c .before .before .before .before .before .before in
+    let p = t .before .pair-within .ensures (t .if2 .taken) in
+    let small = c .before .before .before .before .before .before .before .before .before .before .before .before .fits .n in
+    omega (arith, p .2, l .within, small)
 
 add-i : tie.Need-add-i Inv-loop μ-loop
 add-i c =
-    let p = c .before .before .before .before .before .before .before .pair-within .ensures (c .before .before .before .before .before .before .if2 .taken) in
+    let t = c .before .before .before .before .before .before in
+    let p = t .before .pair-within .ensures (t .if2 .taken) in
     omega (arith, reaches _ _ _ _ (p .0) .1)
 
 loop-less : tie.Need-loop-less Inv-loop μ-loop
 loop-less c =
-    let p = c .before .before .before .before .before .before .before .pair-within .ensures (c .before .before .before .before .before .before .if2 .taken) in
+    let t = c .before .before .before .before .before .before in
+    let p = t .before .pair-within .ensures (t .if2 .taken) in
     omega (arith, p .2)
 
 loop-again : tie.Need-loop-again Inv-loop μ-loop
@@ -136,7 +140,8 @@ front :
     (c .before .before .before .before .before .before .before .before .before .args .from)
     (c .before .before .before .before .before .before .before .before .before .args .n)
     (c .before .before .before .before .before .before .before .before .before .args .out .now) (c .kept .last .1 .1 .1 .0)
-    (c .before .before .before .before .before .loop .i + c .kept .result) (c .before .before .before .before .before .loop .k + c .kept .result)
+    (c .before .before .before .before .before .loop .i + c .kept .result)
+    (c .before .before .before .before .before .loop .k + c .kept .result)
 front c =
     let a = c .before .before .before .before .before .before .before .before .before .args in
     let l = c .before .before .before .before .before .loop in

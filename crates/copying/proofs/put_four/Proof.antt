@@ -62,4 +62,19 @@ returns : tie.Need-returns
 returns c = let a = c .args in four (a .out .now) (a .at) (a .t3) (c .pre) (search needs)
 
 pub put-four-spec : {M : Type 1} → statement M
-put-four-spec = tie.close (tie.spec array-read-out slice-write-out array-read-out-2 add-out slice-write-out-2 array-read-out-3 add-out-2 slice-write-out-3 array-read-out-4 add-out-3 slice-write-out-4 same-length returns)
+put-four-spec =
+    tie.close
+    (tie.spec
+    array-read-out
+    slice-write-out
+    array-read-out-2
+    add-out
+    slice-write-out-2
+    array-read-out-3
+    add-out-2
+    slice-write-out-3
+    array-read-out-4
+    add-out-3
+    slice-write-out-4
+    same-length
+    returns)

@@ -106,7 +106,8 @@ long-requires c κs =
 add-k : tie.Need-add-k Inv-loop μ-loop
 add-k c =
     let l = c .before .before .before .before .before .loop in
-    omega (arith, c .before .before .before .before .past-settled .ensures .1, l .inv .1, c .before .before .before .before .before .before .before .before .before .before .before .fits .n)
+    let small = c .before .before .before .before .before .before .before .before .before .before .before .fits .n in
+    omega (arith, c .before .before .before .before .past-settled .ensures .1, l .inv .1, small)
 
 -- what stands there behind the bytes that are copied as they stand
 abbrev Behind : Type 0
@@ -148,7 +149,8 @@ more :
     (h : Behind)
     → (h .before .before .before .loop .k + (h .before .before .past-settled .result - h .before .before .before .loop .i)
     ≡ h .before .before .before .before .before .before .before .before .before .args .n → ⊥)
-    → h .before .before .past-settled .result < length (h .before .before .before .before .before .before .before .before .before .args .draft .now)
+    → h .before .before .past-settled .result
+    < length (h .before .before .before .before .before .before .before .before .before .args .draft .now)
 more h not-all =
     let a = h .before .before .before .before .before .before .before .before .before .args in
     let l = h .before .before .before .loop in
@@ -221,7 +223,8 @@ loop-again c =
     let l = h .before .before .before .loop in
     let f = front h in
     let less :
-    l .k + (h .before .before .past-settled .result - l .i) < h .before .before .before .before .before .before .before .before .before .args .n =
+    l .k + (h .before .before .past-settled .result - l .i)
+    < h .before .before .before .before .before .before .before .before .before .args .n =
     omega (arith, f .within, c .before .before .if3 .left) in
     (past-return _ _ _ _ (l .inv .2) _ _ _ f less (c .if4 .left), less, l .inv .2)
 
