@@ -113,12 +113,12 @@ fn sequence_at(draft: &[u8], at: usize) -> Sequence
     let low = lowest_second(b);
     let high = highest_second(b);
     if b < 0xE0 {
-        return continued(draft, at + 1, 1, low, high, wide(b - 0xC0));
+        return continued(&draft[..], at + 1, 1, low, high, wide(b - 0xC0));
     }
     if b < 0xF0 {
-        return continued(draft, at + 1, 2, low, high, wide(b - 0xE0));
+        return continued(&draft[..], at + 1, 2, low, high, wide(b - 0xE0));
     }
-    continued(draft, at + 1, 3, low, high, wide(b - 0xF0))
+    continued(&draft[..], at + 1, 3, low, high, wide(b - 0xF0))
 }
 
 // A high surrogate at `at`, and what stands right behind its sequence.
@@ -154,7 +154,7 @@ fn paired(at: usize, number: u32, second: Sequence) -> Character
 fn judged(draft: &[u8], at: usize) -> Character
     ensures { λ r. ⌜ r ≡ judgedBy at (sequence (drop at (now (draft .entry))) at) (drop at (now (draft .entry))) ⌝ }
 {
-    let Sequence::Whole { number, after } = sequence_at(draft, at) else {
+    let Sequence::Whole { number, after } = sequence_at(&draft[..], at) else {
         return Character::Refused {
             number: 2,
             place: at,
@@ -172,7 +172,7 @@ fn judged(draft: &[u8], at: usize) -> Character
             place: at,
         };
     }
-    paired(at, number, sequence_at(draft, after))
+    paired(at, number, sequence_at(&draft[..], after))
 }
 
 // CR at a place: with LF behind it the pair is one LF, any other is 5.
@@ -214,9 +214,9 @@ pub fn character_at(draft: &[u8], at: usize) -> Character
         };
     }
     if b == 0x0D {
-        return carriage_at(draft, at);
+        return carriage_at(&draft[..], at);
     }
-    judged(draft, at)
+    judged(&draft[..], at)
 }
 
 // A character re-encoded: one to four bytes of UTF-8, and zeros behind them.

@@ -191,7 +191,7 @@ pub fn copy(draft: &[u8], from: usize, n: usize, out: &mut [u8]) -> Copied
     let mut i = from;
     let mut k: usize = 0;
     loop {
-        let two = pair_within(draft, i, n - k);
+        let two = pair_within(&draft[..], i, n - k);
         if 0 < two {
             let four = chars::encode(two);
             let bytes = four.bytes;
@@ -200,14 +200,14 @@ pub fn copy(draft: &[u8], from: usize, n: usize, out: &mut [u8]) -> Copied
             i += 6;
             continue;
         }
-        let most = ahead(draft, i, n - k);
-        let same = kept(draft, i, most, out, k);
+        let most = ahead(&draft[..], i, n - k);
+        let same = kept(&draft[..], i, most, out, k);
         k += same;
         i += same;
         if k == n {
             return Copied::Whole { length: k };
         }
-        let Character::Clean { number, after } = next(draft, i) else {
+        let Character::Clean { number, after } = next(&draft[..], i) else {
             return Copied::Whole { length: k };
         };
         let size = chars::encoded_length(number);

@@ -167,7 +167,7 @@ pub fn past_wide(draft: &[u8], at: usize) -> Reach
     let mut i = at;
     let mut less: usize = 0;
     while i < draft.len() {
-        let w = wide(draft, i);
+        let w = wide(&draft[..], i);
         let bytes = w.bytes;
         if bytes == 0 {
             return Reach { after: i, less };

@@ -131,7 +131,7 @@ pub fn string_end(draft: &[u8], from: usize, curly: bool) -> Data
     let mut less: usize = 0;
     let mut level: usize = 1;
     loop {
-        let i = past_plain(draft, at, curly);
+        let i = past_plain(&draft[..], at, curly);
         if draft.len() <= i {
             return Data {
                 after: 0,
@@ -149,9 +149,9 @@ pub fn string_end(draft: &[u8], from: usize, curly: bool) -> Data
             level += 1;
             at = i + 1;
         } else if b == b'\\' {
-            at = escaped(draft, i, up, down);
+            at = escaped(&draft[..], i, up, down);
         } else {
-            let reach = other(draft, i);
+            let reach = other(&draft[..], i);
             at = reach.after;
             less += reach.less;
             if at == i {

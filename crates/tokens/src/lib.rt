@@ -123,7 +123,7 @@ fn string(draft: &[u8], curly: bool, place: usize, prefix: usize, from: usize) -
     let mut level: usize = 1;
     let mut odd = false;
     loop {
-        let answer = chars::character_at(draft, i);
+        let answer = chars::character_at(&draft[..], i);
         let Character::Clean { number, after } = answer else {
             return refusal(answer, draft.len());
         };
@@ -151,9 +151,9 @@ fn opened(draft: &[u8], open: u8, place: usize, prefix: usize, from: usize) -> T
         (streamAt (now (draft .entry)) from))) ⌝ }
 {
     if open == b'"' {
-        return string(draft, false, place, prefix, from);
+        return string(&draft[..], false, place, prefix, from);
     }
-    string(draft, true, place, prefix, from)
+    string(&draft[..], true, place, prefix, from)
 }
 
 // The end of a simple token or a prefix at a byte that is not US-ASCII, CR or nul: CR with LF ends a token, any other character is illegal.
@@ -161,7 +161,7 @@ fn foreign_end(draft: &[u8], begun: usize, i: usize) -> Token
     requires { ⌜ (begun ≤ i) × (i < length (now draft)) × (classOf (getD (now draft) i 0) ≡ 0) ⌝ }
     ensures { λ r. ⌜ r ≡ first (tokens limits (wordAt begun (i - begun)) (streamAt (now (draft .entry)) i)) ⌝ }
 {
-    let answer = chars::character_at(draft, i);
+    let answer = chars::character_at(&draft[..], i);
     let Character::Clean { number, after: _ } = answer else {
         return refusal(answer, draft.len());
     };
@@ -184,7 +184,7 @@ fn word(draft: &[u8], begun: usize) -> Token
     ensures { λ r. ⌜ r ≡ first (tokens limits (wordAt begun 1) (streamAt (now (draft .entry)) (begun + 1))) ⌝ }
 {
     let end = until(draft.len(), begun + 1, limits::TOKEN - 1);
-    let i = run(draft, begun + 1, end, 3, 4);
+    let i = run(&draft[..], begun + 1, end, 3, 4);
     if draft.len() <= i {
         return Token::Refused {
             number: 7,
@@ -192,12 +192,12 @@ fn word(draft: &[u8], begun: usize) -> Token
         };
     }
     let b = draft[i];
-    let k = class_at(draft, i);
+    let k = class_at(&draft[..], i);
     if k == 0 {
-        return foreign_end(draft, begun, i);
+        return foreign_end(&draft[..], begun, i);
     }
     if k == 2 {
-        return opened(draft, b, begun, i - begun, i + 1);
+        return opened(&draft[..], b, begun, i - begun, i + 1);
     }
     if k == 5 {
         return Token::Refused {
@@ -242,7 +242,7 @@ fn bar(draft: &[u8], at: usize) -> Token
             after: at + 2,
         };
     }
-    word(draft, at)
+    word(&draft[..], at)
 }
 
 // A character that is no US-ASCII, where no token has begun: it is illegal, if cleaning gives it at all.
@@ -251,7 +251,7 @@ fn foreign_start(draft: &[u8], i: usize) -> Token
         × (streamAt (now draft) i ≡ pastAll false (streamAt (now draft) i)) ⌝ }
     ensures { λ r. ⌜ r ≡ first (tokens limits between (streamAt (now (draft .entry)) i)) ⌝ }
 {
-    let answer = chars::character_at(draft, i);
+    let answer = chars::character_at(&draft[..], i);
     let Character::Clean {
         number: _,
         after: _,
@@ -271,12 +271,12 @@ fn token_from(draft: &[u8], i: usize) -> Token
     ensures { λ r. ⌜ r ≡ first (tokens limits between (streamAt (now (draft .entry)) i)) ⌝ }
 {
     let b = draft[i];
-    let k = class_at(draft, i);
+    let k = class_at(&draft[..], i);
     if k == 0 {
-        return foreign_start(draft, i);
+        return foreign_start(&draft[..], i);
     }
     if k == 2 {
-        return opened(draft, b, i, 0, i + 1);
+        return opened(&draft[..], b, i, 0, i + 1);
     }
     if k == 5 {
         return Token::Refused {
@@ -285,13 +285,13 @@ fn token_from(draft: &[u8], i: usize) -> Token
         };
     }
     if b == b'|' {
-        return bar(draft, i);
+        return bar(&draft[..], i);
     }
     if k == 3 {
-        return word(draft, i);
+        return word(&draft[..], i);
     }
     if k == 4 {
-        return word(draft, i);
+        return word(&draft[..], i);
     }
     Token::Simple {
         place: i,
@@ -310,14 +310,14 @@ pub fn token_at(draft: &[u8], at: usize) -> Token
             place: draft.len(),
         };
     }
-    let i = skip(draft, at);
+    let i = skip(&draft[..], at);
     if draft.len() <= i {
         return Token::Refused {
             number: 7,
             place: draft.len(),
         };
     }
-    token_from(draft, i)
+    token_from(&draft[..], i)
 }
 
 // The first place from a place on that is not whitespace, or the draft's length: a place past the draft is its end.
@@ -328,7 +328,7 @@ pub fn blank_end(draft: &[u8], at: usize) -> usize
     if draft.len() <= at {
         return draft.len();
     }
-    blanks(draft, at)
+    blanks(&draft[..], at)
 }
 
 // From a place on, inside a comment, the byte after the LF that ends it, or the place of what ends the draft's characters before: a place
@@ -340,5 +340,5 @@ pub fn comment_end(draft: &[u8], at: usize) -> usize
     if draft.len() <= at {
         return draft.len();
     }
-    comment(draft, at)
+    comment(&draft[..], at)
 }

@@ -14,15 +14,15 @@ pub fn blanks(draft: &[u8], at: usize) -> usize
     ensures { λ r. ⌜ (streamAt (now (draft .entry)) r ≡ pastBlanks (streamAt (now (draft .entry)) at)) × (at ≤ r)
         × (r ≤ length (now (draft .entry))) ⌝ }
 {
-    let mut i = run(draft, at, draft.len(), 8, 9);
+    let mut i = run(&draft[..], at, draft.len(), 8, 9);
     while i < draft.len() {
         if draft[i] != 0x0D {
             return i;
         }
-        let Character::Clean { number: _, after } = chars::character_at(draft, i) else {
+        let Character::Clean { number: _, after } = chars::character_at(&draft[..], i) else {
             return i;
         };
-        i = run(draft, after, draft.len(), 8, 9);
+        i = run(&draft[..], after, draft.len(), 8, 9);
     }
     i
 }
@@ -35,7 +35,7 @@ pub fn comment(draft: &[u8], at: usize) -> usize
 {
     let mut i = at;
     loop {
-        let Character::Clean { number, after } = chars::character_at(draft, i) else {
+        let Character::Clean { number, after } = chars::character_at(&draft[..], i) else {
             return i;
         };
         if number == 0x0A {
@@ -51,13 +51,13 @@ pub fn skip(draft: &[u8], at: usize) -> usize
     ensures { λ r. ⌜ (streamAt (now (draft .entry)) r ≡ pastAll false (streamAt (now (draft .entry)) at))
         × (r ≤ length (now (draft .entry))) ⌝ }
 {
-    let mut i = blanks(draft, at);
+    let mut i = blanks(&draft[..], at);
     while i < draft.len() {
         if draft[i] != b'#' {
             return i;
         }
-        let behind = comment(draft, i + 1);
-        i = blanks(draft, behind);
+        let behind = comment(&draft[..], i + 1);
+        i = blanks(&draft[..], behind);
     }
     i
 }

@@ -16,7 +16,7 @@ pub extern "C" fn vogieburn_read(draft: &[u8], list: &mut [u32], text: &mut [u8]
     ensures { λ _. ⌜ now (list .exit) ≡ readingOf limits (now (draft .entry)) (now (list .entry)) (now (text .entry)) .list ⌝ }
     ensures { λ _. ⌜ now (text .exit) ≡ readingOf limits (now (draft .entry)) (now (list .entry)) (now (text .entry)) .text ⌝ }
 {
-    reading::read(draft, list, text)
+    reading::read(&draft[..], list, text)
 }
 
 // Reads a draft likewise, and checks it against a lent table of operations. Here reading has one caller, `vogieburn_read`, so the compiler

@@ -33,8 +33,8 @@ returns c =
     ⊎-elim (λ k. absurd (let z = rw is at k in omega arith)) (λ k. absurd (let z = rw is at k in omega arith)) (c .before .match .keys2)) in
     c .refusal .ensures ∙ (ap (refusalOf _) (c .before .before .character-at .ensures) ∙ sym none)
 
-sub-t8 : tie.Need-sub-t8
-sub-t8 c = search needs
+sub-t10 : tie.Need-sub-t10
+sub-t10 c = search needs
 
 returns-2 : tie.Need-returns-2
 unfolding legal visible white exclusive
@@ -62,6 +62,6 @@ foreign-end-spec =
     enum-known-answer
     refusal-requires
     returns
-    sub-t8
+    sub-t10
     returns-2
     returns-3)

@@ -109,8 +109,8 @@ returns-6 c =
     c .word2 .ensures ∙ sym (worded limits (a .draft .now) i b (i + 1) is (no .0) (no .1) (p .is-visible) (p .no-inclusive) (p .no-atomic)
     (ne-eqb b 0x7C (c .before .before .before .if4 .left)))
 
-add-t9 : tie.Need-add-t9
-add-t9 c = search needs
+add-t21 : tie.Need-add-t21
+add-t21 c = search needs
 
 returns-7 : tie.Need-returns-7
 returns-7 c =
@@ -143,5 +143,5 @@ token-from-spec =
     returns-5
     word-requires-2
     returns-6
-    add-t9
+    add-t21
     returns-7)
