@@ -68,7 +68,7 @@ pub fn before_flag(flags: u64) -> usize
     (bits / 8) as usize
 }
 
-// Whether words are mostly made of a byte; not of all such bytes, `@`, capitals and `_` are left out.
+// Whether words are mostly made of a byte; not of all such bytes, `@` and capitals are left out.
 fn usual(b: u8) -> bool
     ensures { λ r. ⌜ (r ≡ true → common b ≡ true) ⌝ }
 {
@@ -78,7 +78,7 @@ fn usual(b: u8) -> bool
     if b < b';' {
         return true;
     }
-    if b < b'`' {
+    if b < b'_' {
         return false;
     }
     b < b'{'

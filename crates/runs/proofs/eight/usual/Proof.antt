@@ -28,7 +28,7 @@ returns-4 c =
     let b = c .before .before .before .args .b in
     λ t.
     let l = ltb-true b 0x7B t in
-    implied (within 0x60 0x7A) common 256 refl b (search needs) (rw (le-leb 0x60 b (omega arith), le-leb b 0x7A (omega arith)))
+    implied (within 0x5F 0x7A) common 256 refl b (search needs) (rw (le-leb 0x5F b (omega arith), le-leb b 0x7A (omega arith)))
 
 pub usual-spec : {M : Type 1} → statement M
 usual-spec = tie.close (tie.spec returns returns-2 returns-3 returns-4)
