@@ -31,6 +31,9 @@ pub fn word_end(draft: &[u8], begun: usize) -> Ended
             return Ended { at: 0, how: 3 };
         }
         let how = ends(draft[i]);
+        if how == 1 {
+            return ending(begun, i, 1);
+        }
         if how != 3 {
             return ending(begun, i, how);
         }
