@@ -256,6 +256,20 @@ module _ (draft : List ℕ) where
       (λ t e. refused e)
       (rw shape at e)
 
+  -- where as many clean bytes stand as are asked for, and these are some, there is a first byte; and where it is CR, they are as clean from
+  -- its LF on
+  module _ (from n : ℕ) (whole : length (clean n (streamAt draft from)) ≡ n) (some : 1 ≤ n) where
+    first : First from
+    first = begins (reaching n n from (omega arith) whole .spans) some
+
+    pub first-there : from < length draft
+    first-there =
+        let there = reaches draft from (first .number) (first .after) (first .is) in
+        omega (arith, there .0, there .1)
+
+    pub from-line-feed : getD draft from 0 ≡ 0x0D → clean n (streamAt draft from) ≡ clean n (streamAt draft (from + 1))
+    from-line-feed is = return from n (first .number) (first .after) (first .is) is some
+
 -- Data of which as many clean bytes are asked for as there are.
 module _ (draft : List ℕ) (from n : ℕ) (before : List ℕ) (whole : length (clean n (streamAt draft from)) ≡ n) where
   module _ (out : List ℕ) (i k : ℕ) (c : Copying draft from n before out i k) where

@@ -12,5 +12,10 @@ pub as-it-stands :
     (λ κs x. x .1 .1 .1 .0 .now ∷ [])
 as-it-stands κs given a b x y p q = with-buffer (refl, p) (refl, q)
 
+pub word-as-it-stands :
+    OneOutcome fn.text.word_as_it_stands.Kinds.ps fn.text.word_as_it_stands.Kinds.r fn.text.word_as_it_stands.Reads.Post
+    (λ κs x. x .1 .1 .1 .0 .now ∷ [])
+word-as-it-stands κs given a b x y p q = with-buffer (refl, p) (refl, q)
+
 pub fill : OneOutcome fn.text.fill.Kinds.ps fn.text.fill.Kinds.r fn.text.fill.Reads.Post (λ κs x. x .1 .1 .1 .1 .0 .now ∷ [])
 fill κs given a b x y p q = with-buffer (refl, p) (refl, q)

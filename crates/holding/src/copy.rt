@@ -75,16 +75,16 @@ pub fn long(draft: &[u8], from: usize, n: usize, out: &mut [u8])
     ensures { λ r. ⌜ now (out .exit) ≡ take n (drop from (now (draft .entry))) ++ drop n (now (out .entry)) ⌝ }
 {
     if n < 8 {
-        few(draft, from, n, out);
+        few(&draft[..], from, n, out);
         return;
     }
     let last = n - 8;
     let mut k = 0;
     while k < last {
-        eight_over(draft, from + k, out, k);
+        eight_over(&draft[..], from + k, out, k);
         k += 8;
     }
-    eight_over(draft, from + last, out, last);
+    eight_over(&draft[..], from + last, out, last);
 }
 
 // The same for words and data, which are few bytes more often than not: the compiler puts this into its callers, and `long` stays a call.
@@ -94,6 +94,22 @@ pub fn short(draft: &[u8], from: usize, n: usize, out: &mut [u8])
 {
     if n < 8 {
         few(draft, from, n, out);
+    } else {
+        long(draft, from, n, out);
+    }
+}
+
+// The same for a word, of which up to sixteen are copied in place: eight at its front and eight at its end.
+pub fn word(draft: &[u8], from: usize, n: usize, out: &mut [u8])
+    requires { ⌜ (n ≤ length (drop from (now draft))) × (n ≤ length (now out)) ⌝ }
+    ensures { λ r. ⌜ now (out .exit) ≡ take n (drop from (now (draft .entry))) ++ drop n (now (out .entry)) ⌝ }
+{
+    if n < 8 {
+        few(draft, from, n, out);
+    } else if n <= 16 {
+        let last = n - 8;
+        eight_over(draft, from, out, 0);
+        eight_over(draft, from + last, out, last);
     } else {
         long(draft, from, n, out);
     }

@@ -19,21 +19,21 @@ pub fn lines(draft: &[u8], from: usize, n: usize, out: &mut [u8])
         return;
     }
     if draft[from] == 0xED {
-        copy(draft, from, n, out);
+        copy(&draft[..], from, n, out);
         return;
     }
     let mut i = from;
     let mut k: usize = 0;
     loop {
-        let r = past_settled(draft, i, i + (n - k));
+        let r = past_settled(&draft[..], i, i + (n - k));
         let m = r - i;
-        long(draft, i, m, &mut out[k..]);
+        long(&draft[..], i, m, &mut out[k..]);
         k += m;
         if k == n {
             return;
         }
         if draft[r] != 0x0D {
-            copy(draft, r, n - k, &mut out[k..]);
+            copy(&draft[..], r, n - k, &mut out[k..]);
             return;
         }
         i = r + 1;

@@ -20,6 +20,7 @@ use entities::state::Step;
 use holding::rows::row;
 use holding::text::as_it_stands;
 use holding::text::fill;
+use holding::text::word_as_it_stands;
 use scan::Piece;
 
 // The kind of a word by its first byte: numbers, names by their sign, and else operations. Letters are told first, since most words begin
@@ -228,6 +229,6 @@ pub fn take_word(
         0,
         0,
     );
-    as_it_stands(draft, place + cut, size, text, used);
+    word_as_it_stands(draft, place + cut, size, text, used);
     goes(inner.mode, inner.depth, held + 1, used + size)
 }

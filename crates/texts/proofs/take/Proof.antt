@@ -192,7 +192,7 @@ fill-requires c κs =
     .result) (got .last .0)
     (got .last .1 .1 .0) (got .ensures) (c .before .before .before .before .before .before .before .before .before .before .before .if1
     .left) in
-    (omega (arith, f .free, p .8 .used, c .before .before .before .before .before .as-it-stands .kept), p .7 .string-long, p .9)
+    (omega (arith, f .free, p .8 .used, c .before .before .before .before .before .as-it-stands .kept), p .7 .string-long, p .9, omega arith)
 
 add-goes : tie.Need-add-goes
 add-goes c =

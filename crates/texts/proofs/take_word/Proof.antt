@@ -88,11 +88,11 @@ row-requires c κs =
     (got .last .1 .1 .0) (got .ensures) (c .before .if1 .left) in
     omega (arith, f .held, f .room, got .kept, p .6 .held)
 
-add-as-it-stands : tie.Need-add-as-it-stands
-add-as-it-stands c = search needs
+add-word-as-it-stands : tie.Need-add-word-as-it-stands
+add-word-as-it-stands c = search needs
 
-as-it-stands-requires : tie.Need-as-it-stands-requires
-as-it-stands-requires c κs =
+word-as-it-stands-requires : tie.Need-word-as-it-stands-requires
+word-as-it-stands-requires c κs =
     let start = c .before .before .before .before .before .before .before .before .before .before .before .before .before .before .before
     .before .before .before .before .before .before in
     let a = start .args in
@@ -175,7 +175,7 @@ returns-2 c =
     (got .last .1 .1 .0) (rw none (got .ensures)) (c .before .before .before .before .before .before .before .before .before .if1 .left)
     in
     let wrote = c .before .before .before .before .before .before .before .row in
-    let after-text = c .before .before .before .as-it-stands in
+    let after-text = c .before .before .before .word-as-it-stands in
     let middle = after-text .last .1 .1 .1 .0 in
     let size = a .length - cut .result in
     let all : a .s .text + size + 0 ≡ a .s .text + size = omega arith in
@@ -204,8 +204,8 @@ take-word-spec =
     cast-row-2
     cast-row-3
     row-requires
-    add-as-it-stands
-    as-it-stands-requires
+    add-word-as-it-stands
+    word-as-it-stands-requires
     add-goes
     add-goes-2
     goes-requires
