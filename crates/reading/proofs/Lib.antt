@@ -1,5 +1,6 @@
 pub mod Computes
 pub mod Walking
+pub mod Rounds
 pub mod Turning
 pub mod Held
 pub mod Called

@@ -422,8 +422,8 @@ module _ (draft list text groups : List ℕ) (s : State) (at : ℕ) (f : Piece) 
 -- a draft over the limit: nothing is read
 pub too-long :
     (draft list text : List ℕ) → 16384 < length draft
-    → (record { number = 1; place = 0; entities = 0; text = 0; consumed = 0; steps = 0; cells = 0 } ≡ reading limits draft list
-    text .answer)
-    × ((list ≡ reading limits draft list text .list) × (text ≡ reading limits draft list text .text))
+    → (told 1 0 (record { mode = 0; depth = 0; entities = 0; text = 0 }) 0 ≡ reading limits draft list text .answer)
+    × (list ≡ reading limits draft list text .list)
+    × (text ≡ reading limits draft list text .text)
 unfolding reading answered readWith refusal rows texts sizes
-too-long draft list text h = rw (lt-ltb 16384 (length draft) h) (refl, (refl, refl))
+too-long draft list text h = rw (lt-ltb 16384 (length draft) h) (refl, refl, refl)

@@ -2,11 +2,11 @@
 use Prim.Native.Nat.{ℕ, _+_, _<_}
 use mathlib.Core.Path.{_≡_}
 use mathlib.Core.List.{List, []}
-use lib.Dec.{eqb}
+use lib.Dec.{eqb, ltb}
 use lib.ListN.{length}
 use Rattle.chars.specs.Choice.{if_then_else_}
 use Rattle.chars.specs.Limits.{limits}
-use Rattle.chars.specs.Stream.{streamAt}
+use Rattle.chars.specs.Stream.{start, streamAt}
 use Rattle.tokens.specs.Tokens.{tokens, between}
 use Rattle.entities.specs.Entity.{Entity, sizes}
 use Rattle.entities.specs.Judging.{written, textWritten}
@@ -22,6 +22,13 @@ pub data Turn : Type 0 where
 
 unfoldable pub turn : Round → Turn
 turn r = if eqb (r .over) 0 then On (r .state) (r .after) else Over (r .number) (r .place) (r .state) (r .after)
+
+-- where reading begins
+unfoldable pub openingOf : (draft : List ℕ) → Turn
+openingOf draft =
+    if ltb (limits .draft) (length draft)
+    then Over 1 0 (record { mode = 0; depth = 0; entities = 0; text = 0 }) 0
+    else On (record { mode = 0; depth = 0; entities = 0; text = 0 }) (start draft)
 
 -- a step behind which reading goes on
 unfoldable pub behindOf : Took → (place after : ℕ) → Turn

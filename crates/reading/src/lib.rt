@@ -1,15 +1,14 @@
 // From tokens to entities: Shastina Specification, section 5, and document 01, "From tokens to entities".
 ghost use mathlib.Core.Path.{_≡_};
-ghost use Prim.Native.Nat.{_≤_};
 ghost use lib.ListN.{length};
 ghost use Rattle.chars.specs.Limits.{limits as base};
 ghost use Rattle.reading.specs.Reading.{reading as readingOf};
 
 mod round;
 
-use chars::limits;
 use entities::state::State;
 use round::go_round;
+use round::opening;
 use runs::blank::past_blanks;
 
 // The answer of read and of check. A number that an answer has no use for is 0.
@@ -54,28 +53,19 @@ fn told(number: usize, place: usize, s: State, consumed: usize) -> Answer
 
 // The tokens of a draft, one after another, with an array for the open groups.
 fn walk(draft: &[u8], list: &mut [u32], text: &mut [u8], groups: &mut [u16]) -> Answer
-    requires { ⌜ (length (now draft) ≤ 16384) × (length (now groups) ≡ 64) ⌝ }
+    requires { ⌜ length (now groups) ≡ 64 ⌝ }
     ensures { λ r. ⌜ r ≡ readingOf base (now (draft .entry)) (now (list .entry)) (now (text .entry)) .answer ⌝ }
     ensures { λ _. ⌜ now (list .exit) ≡ readingOf base (now (draft .entry)) (now (list .entry)) (now (text .entry)) .list ⌝ }
     ensures { λ _. ⌜ now (text .exit) ≡ readingOf base (now (draft .entry)) (now (list .entry)) (now (text .entry)) .text ⌝ }
 {
-    let mut at = chars::start(draft);
-    let mut s = State {
-        mode: 0,
-        depth: 0,
-        entities: 0,
-        text: 0,
-    };
-    loop {
-        let place = past_blanks(draft, at);
-        let r = go_round(draft, list, text, groups, s, place);
-        let state = r.state;
-        if r.over != 0 {
-            return told(r.number, r.place, state, r.after);
-        }
-        s = state;
-        at = r.after;
+    let mut r = opening(draft);
+    while r.over == 0 {
+        let s = r.state;
+        let place = past_blanks(draft, r.after);
+        r = go_round(draft, list, text, groups, s, place);
     }
+    let state = r.state;
+    told(r.number, r.place, state, r.after)
 }
 
 // Reads a draft into two lent buffers: the entities' numbers into the list, their text and data into the text buffer. Past what is held
@@ -85,17 +75,6 @@ pub fn read(draft: &[u8], list: &mut [u32], text: &mut [u8]) -> Answer
     ensures { λ _. ⌜ now (list .exit) ≡ readingOf base (now (draft .entry)) (now (list .entry)) (now (text .entry)) .list ⌝ }
     ensures { λ _. ⌜ now (text .exit) ≡ readingOf base (now (draft .entry)) (now (list .entry)) (now (text .entry)) .text ⌝ }
 {
-    if limits::DRAFT < draft.len() {
-        return Answer {
-            number: 1,
-            place: 0,
-            entities: 0,
-            text: 0,
-            consumed: 0,
-            steps: 0,
-            cells: 0,
-        };
-    }
     let mut groups = [0u16; 64];
     let view: &mut [u16] = &mut groups;
     walk(draft, list, text, view)

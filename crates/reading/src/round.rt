@@ -5,7 +5,8 @@ ghost use lib.ListN.{length, getD};
 ghost use Rattle.runs.specs.Bytes.{beginsAt};
 ghost use Rattle.scan.specs.Opens.{Ended as EndedBy};
 ghost use Rattle.entities.specs.Stepping.{Ready, took};
-ghost use Rattle.reading.specs.Rounds.{goesRound, turn, behindOf, endedOf};
+ghost use Rattle.reading.specs.Rounds.{goesRound, turn, openingOf, behindOf, endedOf};
+use chars::limits;
 use entities::metacommands::metacommand_ends;
 use entities::state::State;
 use entities::state::Step;
@@ -38,6 +39,22 @@ fn on(s: State, after: usize) -> Round
         after,
         state: s,
     }
+}
+
+// Where reading begins: behind a byte order mark, if there is one. A draft over the limit is refused.
+pub fn opening(draft: &[u8]) -> Round
+    ensures { λ r. ⌜ turn r ≡ openingOf (now (draft .entry)) ⌝ }
+{
+    let none = State {
+        mode: 0,
+        depth: 0,
+        entities: 0,
+        text: 0,
+    };
+    if limits::DRAFT < draft.len() {
+        return over(1, 0, none);
+    }
+    on(none, chars::start(draft))
 }
 
 // A refusal.

@@ -1,125 +1,91 @@
--- `reading::walk` meets its contract. The invariant: what reading answers is what is held so far, and behind it what it reads from here
--- on,
--- before whitespace and behind it alike. Assumes nothing.
-use mathlib.Core.Path.{_∙_}
-use Prim.Native.Nat.{_-_, _≤_}
+-- `reading::walk` meets its contract. The invariant is what holds behind every round. Assumes nothing.
+use mathlib.Core.Path.{_≡_, refl, _∙_}
 use native.Mathlib.Omega.{arith}
 use lib.ListN.{length}
 use borrow.Author.Needs.{needs}
 use borrow.Author.Tests.{eq-eqb, ne-eqb}
-use Rattle.reading.specs.Rounds.{SoFar, ahead, goesRound, turn}
-use Rattle.reading.proofs.Walking.{at-first, past-whitespace, further, finished}
+use Rattle.reading.specs.Rounds.{turn}
+use Rattle.reading.proofs.Rounds.{Behind, left, opened, short, ready, turned, less, answered}
 use Rattle.reading.proofs.walk.Statement.{statement}
 use Rattle.reading.proofs.walk.Tie as tie
 
 abbrev Inv-loop : tie.InvT-loop
-Inv-loop draft list₀ text₀ groups₀ at₀ s₀ list text groups at s = SoFar draft list₀ text₀ list text groups s at
-    (ahead draft list text groups s at) × (length draft ≤ 16384)
+Inv-loop draft list₀ text₀ groups₀ r₀ list text groups r =
+    Behind draft list₀ text₀ list text groups (turn r) × (length list ≡ length list₀) × (length text ≡ length text₀) × (length groups ≡ 64)
 
 abbrev μ-loop : tie.MeasureT-loop
-μ-loop draft list₀ text₀ groups₀ at₀ s₀ list text groups at s = length draft - at
+μ-loop draft list₀ text₀ groups₀ r₀ list text groups r = left draft (turn r)
 
-start-requires : tie.Need-start-requires Inv-loop μ-loop
-start-requires c κs = search needs
+opening-requires : tie.Need-opening-requires Inv-loop μ-loop
+opening-requires c κs = search needs
 
 loop-holds : tie.Need-loop-holds Inv-loop μ-loop
 loop-holds c =
-    let p = c .before .before .before .before .before .pre in
-    let a = c .before .before .before .before .before .args in
-    (rw (c .start .ensures) (at-first (a .draft .now) (a .list .now) (a .text .now) (a .groups .now) (p .0) (p .1)), p .0)
+    let start = c .before .before .before .before .before in
+    let a = start .args in (
+      rw (c .opening .ensures) (opened (a .draft .now) (a .list .now) (a .text .now) (a .groups .now) (start .pre)),
+      refl,
+      refl,
+      start .pre,
+    )
 
 past-blanks-requires : tie.Need-past-blanks-requires Inv-loop μ-loop
 past-blanks-requires c κs = search needs
 
 go-round-requires : tie.Need-go-round-requires Inv-loop μ-loop
 go-round-requires c κs =
-    let a = c .before .before .before .before .before .before .before .before .before .before .args in
-    let l = c .before .before .before .before .loop in
-    let so = past-whitespace (a .draft .now) (a .list .now) (a .text .now) (l .list) (l .text) (l .groups) (l .s) (l .at) _
-    (c .before .before .before .past-blanks .ensures) (l .inv .0) in
-    (l .inv .1, so .ready)
+    let a = c .before .before .before .before .before .before .before .before .before .before .before .before .before .args in
+    let l = c .before .before .before .before .before .before .before .loop in
+    let on = c .before .before .before .before .before .if1 .taken in
+    let is = c .before .before .before .past-blanks .ensures in (
+      short (a .draft .now) (l .list) (l .text) (l .groups) (l .r) on _ is (a .list .now) (a .text .now) (l .inv .0),
+      ready (a .draft .now) (l .list) (l .text) (l .groups) (l .r) on _ is (a .list .now) (a .text .now) (l .inv .0),
+    )
+
+loop-less : tie.Need-loop-less Inv-loop μ-loop
+loop-less c =
+    let a = c .before .before .before .before .before .before .before .before .before .before .before .before .before .before .before .before .before .before .before .before .args in
+    let l = c .before .before .before .before .before .before .before .before .before .before .before .before .before .before .loop in
+    let on = c .before .before .before .before .before .before .before .before .before .before .before .before .if1 .taken in
+    let is = c .before .before .before .before .before .before .before .before .before .before .past-blanks .ensures in
+    let went = c .before .before .before .before .before .before .go-round in
+    let e = went .last in
+    less (a .draft .now) (l .list) (l .text) (l .groups) (l .r) on _ is _ (e .1 .0) (e .1 .1 .0) (e .1 .1 .1 .0) (went .ensures)
+
+loop-again : tie.Need-loop-again Inv-loop μ-loop
+loop-again c =
+    let a = c .before .before .before .before .before .before .before .before .before .before .before .before .before .before .before .before .before .before .before .before .args in
+    let l = c .before .before .before .before .before .before .before .before .before .before .before .before .before .before .loop in
+    let on = c .before .before .before .before .before .before .before .before .before .before .before .before .if1 .taken in
+    let is = c .before .before .before .before .before .before .before .before .before .before .past-blanks .ensures in
+    let went = c .before .before .before .before .before .before .go-round in
+    let e = went .last in (
+      turned (a .draft .now) (l .list) (l .text) (l .groups) (l .r) on _ is (a .list .now) (a .text .now) (l .inv .0) _ (e .1 .0)
+          (e .1 .1 .0) (e .1 .1 .1 .0) (went .ensures) (omega (arith, went .kept)) (omega (arith, went .kept)),
+      omega (arith, went .kept, l .inv .1),
+      omega (arith, went .kept, l .inv .2),
+      omega (arith, went .kept, l .inv .3),
+    )
 
 told-requires : tie.Need-told-requires Inv-loop μ-loop
 told-requires c κs = search needs
 
 same-length : tie.Need-same-length Inv-loop μ-loop
-same-length c =
-    omega (
-      arith,
-      c .before .before .before .before .before .before .before .before .before .before .go-round .kept,
-      c .before .before
-          .before .before .before .before .before .before .before .before .before .before .before .before .before .loop .inv .0 .same-list,
-    )
+same-length c = c .before .before .before .before .loop .inv .1
 
 same-length-2 : tie.Need-same-length-2 Inv-loop μ-loop
-same-length-2 c =
-    omega (
-      arith,
-      c .before .before .before .before .before .before .before .before .before .before .go-round .kept,
-      c .before .before
-          .before .before .before .before .before .before .before .before .before .before .before .before .before .loop .inv .0 .same-text,
-    )
+same-length-2 c = c .before .before .before .before .loop .inv .2
 
 same-length-3 : tie.Need-same-length-3 Inv-loop μ-loop
-same-length-3 c = omega (
-  arith,
-  c .before .before .before .before .before .before .before .before .before .before .go-round .kept,
-  c .before .before .before .before .before .before .before .before .before .before .before .before .before .before .before .loop .inv .0
-      .ready .array,
-  c .before .before .before .before .before .before .before .before .before .before .before .before .before .before .before .before
-      .before .before .before .before .before .pre .1,
-)
+same-length-3 c = omega (arith, c .before .before .before .before .loop .inv .3, c .before .before .before .before .before .before .before .before .before .before .pre)
 
 returns : tie.Need-returns Inv-loop μ-loop
-unfolding turn
 returns c =
-    let after-go-round = c .before .before .before .before .before .before .before .before .before .before .go-round in
-    let a = c .before .before .before .before .before .before .before .before .before .before .before .before .before .before .before
-    .before .before .before .before .before .before .args in
-    let l = c .before .before .before .before .before .before .before .before .before .before .before .before .before .before .before
-    .loop in
-    let passed = c .before .before .before .before .before .before .before .before .before .before .before .before .before .before
-    .past-blanks in
-    let so = past-whitespace (a .draft .now) (a .list .now) (a .text .now) (l .list) (l .text) (l .groups) (l .s) (l .at) _
-    (passed .ensures) (l .inv .0) in
-    let e = after-go-round .last in
-    let r = after-go-round .result in
-    let held = finished (a .draft .now) (a .list .now) (a .text .now) (l .list) (l .text) (l .groups) (l .s) (passed .result) so (r
-    .state)
-    (e .1 .0) (e .1 .1 .0) (e .1 .1 .1 .0) (r .number) (r .place) (r .after)
-    (rw (ne-eqb (r .over) 0 (c .before .if1 .taken)) at (after-go-round .ensures)) in
-    (c .told .ensures ∙ held .0, (held .1, held .2))
-
-loop-less : tie.Need-loop-less Inv-loop μ-loop
-unfolding goesRound turn
-loop-less c =
-    let after-go-round = c .before .before .before .before .before .before .before .before .before .go-round in
-    let went = rw (eq-eqb (after-go-round .result .over) 0 (c .if1 .left)) at (after-go-round .ensures) in
-    omega (
-      arith,
-      went .2,
-      went .3,
-      c .before .before .before .before .before .before .before .before .before .before .before .before
-          .before .past-blanks .ensures,
-    )
-
-loop-again : tie.Need-loop-again Inv-loop μ-loop
-unfolding goesRound turn
-loop-again c =
-    let after-go-round = c .before .before .before .before .before .before .before .before .before .go-round in
-    let a = c .before .before .before .before .before .before .before .before .before .before .before .before .before .before .before
-    .before .before .before .before .before .args in
-    let l = c .before .before .before .before .before .before .before .before .before .before .before .before .before .before .loop in
-    let passed = c .before .before .before .before .before .before .before .before .before .before .before .before .before .past-blanks in
-    let so = past-whitespace (a .draft .now) (a .list .now) (a .text .now) (l .list) (l .text) (l .groups) (l .s) (l .at) _
-    (passed .ensures) (l .inv .0) in
-    let e = after-go-round .last in
-    let went = rw (eq-eqb (after-go-round .result .over) 0 (c .if1 .left)) at (after-go-round .ensures) in (
-      further (a .draft .now) (a .list .now) (a .text .now) (l .list) (l .text) (l .groups) (l .s) (passed .result) so _ (e .1 .0)
-          (e .1 .1 .0) _ (went .0) (e .1 .1 .1 .0) _ (omega (arith, after-go-round .kept)) (omega (arith, after-go-round .kept)) (went
-          .1),
-      l .inv .1,
-    )
+    let a = c .before .before .before .before .before .before .before .before .before .before .args in
+    let l = c .before .before .before .before .loop in
+    let left = c .before .before .if1 .left in
+    let end = answered (a .draft .now) (a .list .now) (a .text .now) (l .list) (l .text) (l .groups) (l .r) left (l .inv .0) in
+    (c .told .ensures ∙ end .0, (end .1, end .2))
 
 pub walk-spec : {M : Type 1} → statement M
 walk-spec =
@@ -127,14 +93,14 @@ walk-spec =
     (tie.spec
     Inv-loop
     μ-loop
-    start-requires
+    opening-requires
     loop-holds
     past-blanks-requires
     go-round-requires
+    loop-less
+    loop-again
     told-requires
     same-length
     same-length-2
     same-length-3
-    returns
-    loop-less
-    loop-again)
+    returns)
