@@ -9,7 +9,7 @@ use lib.ListN.{length, getD, take, drop}
 use lib.Seq.{drop-cons}
 use Rattle.chars.specs.Choice.{within}
 use Rattle.chars.specs.Character.{continued, lowest, highest, sequence, paired, judged, character, characterAt}
-use Rattle.chars.specs.Rfc3629.{utf8-2, utf8-char}
+use Rattle.chars.specs.Rfc3629.{utf8-2, utf8-3, utf8-char}
 use Rattle.chars.specs.declared.Character.the-variants.{Clean}
 use Rattle.chars.specs.declared.Sequence.the-variants.{Whole}
 use Rattle.chars.proofs.Extent.{within-true, inside, encoded-four}
@@ -44,6 +44,20 @@ unfolding utf8-char
 of-two draft at h e =
     by-grammar draft at 2 h (omega arith)
     (rw (next draft at (at + 1) (omega arith) (omega arith), next draft (at + 1) (at + 2) (omega arith) (omega arith))
+    (simp (e, or-true)))
+
+-- and all of three
+pub of-three :
+    (draft : List ℕ) (at : ℕ) → at + 3 ≤ length draft
+    → utf8-3 (getD draft at 0 ∷ getD draft (at + 1) 0 ∷ getD draft (at + 2) 0 ∷ []) ≡ true → Wider draft at 3 0
+unfolding utf8-char
+of-three draft at h e =
+    by-grammar draft at 3 h (omega arith)
+    (rw (
+      next draft at (at + 1) (omega arith) (omega arith),
+      next draft (at + 1) (at + 2) (omega arith) (omega arith),
+      next draft (at + 2) (at + 3) (omega arith) (omega arith),
+    )
     (simp (e, or-true)))
 
 -- three bytes from ED on, by the definition
@@ -123,3 +137,9 @@ less-bytes w = omega (arith, w .size)
 pub less-wides : {draft : List ℕ} {at i less : ℕ} → Wides draft at i less → less ≤ i
 less-wides none = omega arith
 less-wides (more i bytes gone less ws w) = omega (arith, less-wides ws, less-bytes w)
+
+-- some behind others that all stay as they are
+pub wides-on :
+    {draft : List ℕ} {at i r less : ℕ} → Wides draft at i 0 → Wides draft i r less → Wides draft at r less
+wides-on first none = first
+wides-on first (more j bytes gone less ws w) = more j bytes gone less (wides-on first ws) w

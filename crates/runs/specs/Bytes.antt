@@ -52,10 +52,10 @@ unfoldable pub remark : (b : ℕ) → Bool
 remark b = within 0x20 0x7F b
 
 -- What string data is mostly made of: in a quoted string SP, visible characters and DEL, but for `"` and backslash; in a curly string SP
--- and visible characters, but for all from `[` to `_` and from `{` on.
+-- and visible characters, but for backslash and all from `{` on.
 unfoldable pub plain : (curly : Bool) → (b : ℕ) → Bool
 plain curly b =
-    if curly then within 0x20 0x5A b || within 0x60 0x7A b
+    if curly then within 0x20 0x7A b && not (eqb b 0x5C)
     else within 0x20 0x7F b && (not (eqb b 0x22) && not (eqb b 0x5C))
 
 -- what cleaning leaves as it is wherever it stands in well-formed text: all but CR, and ED, with which surrogates begin

@@ -40,14 +40,15 @@ fn quoted_flags(w: u64) -> u64
     (w | ((low & escape) ^ 0x8080808080808080)) & 0x8080808080808080
 }
 
-// The same of curly string data: control characters, `[` to `_`, from `{` on, and what is not US-ASCII.
+// The same of curly string data: control characters, backslash, from `{` on, and what is not US-ASCII.
 fn curly_flags(w: u64) -> u64
     ensures { λ r. ⌜ Flags (plain true) w r ⌝ }
 {
     let x = w & 0x7F7F7F7F7F7F7F7F;
     let low = x + 0x6060606060606060;
-    let high = (x | 0x2020202020202020) + 0x0505050505050505;
-    (w | (low ^ 0x8080808080808080) | high) & 0x8080808080808080
+    let high = x + 0x0505050505050505;
+    let escape = (x ^ 0x5C5C5C5C5C5C5C5C) + 0x7F7F7F7F7F7F7F7F;
+    (w | high | ((low & escape) ^ 0x8080808080808080)) & 0x8080808080808080
 }
 
 // The same of either.
@@ -68,20 +69,20 @@ pub fn before_flag(flags: u64) -> usize
     (bits / 8) as usize
 }
 
-// Whether words are mostly made of a byte; not of all such bytes, `@` and capitals are left out.
+// Whether words are mostly made of a byte.
 fn usual(b: u8) -> bool
     ensures { λ r. ⌜ (r ≡ true → common b ≡ true) ⌝ }
 {
+    if b'_' <= b {
+        return b < b'{';
+    }
+    if b'@' <= b {
+        return b < b'[';
+    }
     if b < b'-' {
         return false;
     }
-    if b < b';' {
-        return true;
-    }
-    if b < b'_' {
-        return false;
-    }
-    b < b'{'
+    b < b';'
 }
 
 // From `at` on, behind such bytes, one by one: for a draft's last bytes, of which there are no eight.

@@ -1,5 +1,6 @@
 // Characters above US-ASCII: two to four bytes by the grammar of RFC 3629, section 4, or a surrogate pair, which is six and becomes four.
 ghost use mathlib.Core.Path.{_≡_};
+ghost use mathlib.Core.Bool.{true};
 ghost use mathlib.Core.List.{[], _∷_};
 ghost use Prim.Native.Nat.{_+_, _<_, _≤_};
 ghost use lib.ListN.{length, getD};
@@ -60,6 +61,22 @@ fn three(b: u8, c: u8, d: u8) -> bool
         return within(0x80, 0x9F, c);
     }
     within(0x80, 0xBF, c)
+}
+
+// Whether three are one by the two lines of UTF8-3 that have two tails: all but those behind E0 and ED.
+fn two_tails(b: u8, c: u8, d: u8) -> bool
+    ensures { λ r. ⌜ (r ≡ true → utf8-3 (b ∷ c ∷ d ∷ []) ≡ true) ⌝ }
+{
+    if b == 0xED {
+        return false;
+    }
+    if !within(0xE1, 0xEF, b) {
+        return false;
+    }
+    if !within(0x80, 0xBF, c) {
+        return false;
+    }
+    within(0x80, 0xBF, d)
 }
 
 // Whether four are one, UTF8-4: behind F0 no overlong form, behind F4 nothing above 10FFFF.
@@ -143,8 +160,8 @@ fn wide(draft: &[u8], at: usize) -> Bytes
     of(0, 0)
 }
 
-// From `at` on, behind characters of two bytes. It is short enough to be put into its callers, where `past_wide` stays a call.
-pub fn past_two(draft: &[u8], at: usize) -> usize
+// From `at` on, behind characters of two bytes.
+fn past_two(draft: &[u8], at: usize) -> usize
     requires { ⌜ at ≤ length (now draft) ⌝ }
     ensures { λ r. ⌜ Wides (now (draft .entry)) at r 0 × (r ≤ length (now (draft .entry))) ⌝ }
 {
@@ -157,6 +174,30 @@ pub fn past_two(draft: &[u8], at: usize) -> usize
         i += 2;
     }
     i
+}
+
+// The same with three bytes.
+fn past_three(draft: &[u8], at: usize) -> usize
+    requires { ⌜ at ≤ length (now draft) ⌝ }
+    ensures { λ r. ⌜ Wides (now (draft .entry)) at r 0 × (r ≤ length (now (draft .entry))) ⌝ }
+{
+    let end = draft.len();
+    let mut i = at;
+    while 3 <= end - i {
+        if !two_tails(draft[i], draft[i + 1], draft[i + 2]) {
+            return i;
+        }
+        i += 3;
+    }
+    i
+}
+
+// Behind letters of two bytes and then signs of three. It is short enough to be put into its callers, where `past_wide` stays a call.
+pub fn past_narrow(draft: &[u8], at: usize) -> usize
+    requires { ⌜ at ≤ length (now draft) ⌝ }
+    ensures { λ r. ⌜ Wides (now (draft .entry)) at r 0 × (r ≤ length (now (draft .entry))) ⌝ }
+{
+    past_three(draft, past_two(draft, at))
 }
 
 // From `at` on, behind characters above US-ASCII.

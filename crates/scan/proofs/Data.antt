@@ -114,19 +114,14 @@ even-at draft false i number after e u d s =
     (no-mark draft 0x5C i number after (omega arith) (λ l. omega arith) e s)
 
 -- a byte that string data is mostly made of
-plain-curly : (low high b : ℕ) → 0x20 ≤ low → high < 0x7B → (b ≡ 0x5C → b < low) → within low high b ≡ true → Single b × Even true b
-plain-curly low high b g l s t =
-    let w = within-true low high b t in (
-      record { above = omega arith; below = omega arith; no-return = λ e. omega arith },
-      even true b (λ e. omega arith) (λ e. omega arith) (λ e. omega (arith, s e)),
-    )
-
 plain-data : (curly : Bool) (b : ℕ) → plain curly b ≡ true → Single b × Even curly b
 unfolding plain
 plain-data true b t =
-    either (within 0x20 0x5A b)
-    (λ u. plain-curly 0x20 0x5A b (omega arith) (omega arith) (λ e. absurd (omega (arith, within-true 0x20 0x5A b u .1))) u)
-    (λ u. plain-curly 0x60 0x7A b (omega arith) (omega arith) (λ e. omega arith) (rw u at t))
+    let p = both (within 0x20 0x7A b) (not (eqb b 0x5C)) t in
+    let w = within-true 0x20 0x7A b (p .0) in (
+      record { above = omega arith; below = omega arith; no-return = λ e. omega arith },
+      even true b (λ e. omega arith) (λ e. omega arith) (eqb-false b 0x5C (not-true _ (p .1))),
+    )
 plain-data false b t =
     let p = both (within 0x20 0x7F b) _ t in
     let q = both (not (eqb b 0x22)) (not (eqb b 0x5C)) (p .1) in

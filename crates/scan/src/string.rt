@@ -10,7 +10,7 @@ use chars::limits;
 use runs::byte::is_line;
 use runs::eight::past_plain;
 use runs::wide::Reach;
-use runs::wide::past_two;
+use runs::wide::past_narrow;
 use runs::wide::past_wide;
 
 // The byte after the one that closes a string, and how many clean bytes its data has. 0 for the byte says nothing.
@@ -75,10 +75,10 @@ fn other(draft: &[u8], i: usize) -> Reach
 {
     let b = draft[i];
     if 0x7F < b {
-        let two = past_two(draft, i);
-        if two != i {
+        let narrow = past_narrow(draft, i);
+        if narrow != i {
             return Reach {
-                after: two,
+                after: narrow,
                 less: 0,
             };
         }

@@ -9,13 +9,13 @@ use Rattle.scan.proofs.string.other.Tie as tie
 shared-slice-read-b : tie.Need-shared-slice-read-b
 shared-slice-read-b c = search needs
 
-past-two-requires : tie.Need-past-two-requires
-past-two-requires c κs = search needs
+past-narrow-requires : tie.Need-past-narrow-requires
+past-narrow-requires c κs = search needs
 
 returns : tie.Need-returns
 returns c =
     let a = c .before .before .before .before .before .args in
-    λ curly level p. wides (a .draft .now) curly (a .i) _ _ level (omega arith) (c .before .past-two .ensures .0)
+    λ curly level p. wides (a .draft .now) curly (a .i) _ _ level (omega arith) (c .before .past-narrow .ensures .0)
 
 past-wide-requires : tie.Need-past-wide-requires
 past-wide-requires c κs = search needs
@@ -62,7 +62,7 @@ other-spec =
     tie.close
     (tie.spec
     shared-slice-read-b
-    past-two-requires
+    past-narrow-requires
     returns
     past-wide-requires
     returns-2
