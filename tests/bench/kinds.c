@@ -34,6 +34,9 @@ const kind kinds[KINDS] = {
     {"dashes", "signs of three bytes in strings", put_dashes, BAR, 0},
     {"lines", "CR LF and letters of two bytes in strings", put_lines, BAR, 0},
     {"accented-comments", "letters of two bytes in comments", put_accented_comment, BAR, 0},
+    {"dashed-comments", "signs of three bytes in comments", put_dashed_comment, BAR, 0},
+    {"capitals", "words in capitals", put_capitals, BAR, 0},
+    {"data", "brackets and `_` in curly strings", put_data, BAR, 0},
     {"23", "a draft of 23 bytes", put_23_bytes, BAR, 23},
 };
 

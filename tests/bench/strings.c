@@ -176,6 +176,29 @@ void put_accented_comment(making *m)
     put_byte(m->d, '\n');
 }
 
+void put_dashed_comment(making *m)
+{
+    put_byte(m->d, '#');
+    put_accents(m, 0x2010);
+    put_byte(m->d, '\n');
+}
+
+/* Names and arrays as other formats write them. */
+void put_data(making *m)
+{
+    put_opening(m, true);
+    for (size_t left = 1 + below(&m->l, 3); left > 0; left--) {
+        put_letters(m, 1 + below(&m->l, 4));
+        put_byte(m->d, '_');
+        put_letters(m, 1 + below(&m->l, 4));
+        put_bytes(m->d, ": [", 3);
+        put_letters(m, 1 + below(&m->l, 4));
+        put_byte(m->d, ']');
+    }
+    put_closing(m, true);
+    put_space(m);
+}
+
 void put_short_comment(making *m)
 {
     put_byte(m->d, '#');

@@ -15,6 +15,13 @@ void put_word(making *m)
     put_space(m);
 }
 
+void put_capitals(making *m)
+{
+    for (size_t left = 2 + below(&m->l, 10); left > 0; left--)
+        put_byte(m->d, (unsigned char)('A' + below(&m->l, 26)));
+    put_space(m);
+}
+
 void put_one_letter(making *m)
 {
     put_letters(m, 1);
