@@ -17,8 +17,8 @@ typedef struct {
 /* Puts one unit, drawn by lot, and what parts it from the next one. */
 typedef void unit(making *m);
 
-unit put_word, put_one_letter, put_capitals, put_signed_name, put_compound, put_operator, put_indented, put_numbers, put_tabbed, put_empty_array,
-    put_strings, put_groups, put_metacommand;
+unit put_word, put_one_letter, put_capitals, put_signed_name, put_compound, put_operator, put_indented, put_numbers, put_tabbed,
+    put_empty_array, put_strings, put_groups, put_metacommand;
 
 unit put_long_string, put_wide_string, put_short_string, put_escapes, put_nested, put_pairs, put_picture, put_prefixed, put_accented,
     put_dashes, put_lines, put_comment, put_wide_comment, put_short_comment, put_accented_comment,

@@ -1,5 +1,5 @@
--- All rounds of a reading. Behind each of them either what is read so far stands in the buffers, and the rest is still to be read; or reading
--- is over, and what it comes to is the definition's. Each round that goes on leaves less of the draft.
+-- All rounds of a reading. Behind each of them either what is read so far stands in the buffers, and the rest is still to be read; or
+-- reading is over, and what it comes to is the definition's. Each round that goes on leaves less of the draft.
 use mathlib.Core.Path.{_≡_}
 use mathlib.Core.List.{List}
 use Prim.Native.Nat.{ℕ, suc, _+_, _-_, _<_, _≤_}

@@ -44,7 +44,8 @@ go-round-requires c κs =
 
 loop-less : tie.Need-loop-less Inv-loop μ-loop
 loop-less c =
-    let a = c .before .before .before .before .before .before .before .before .before .before .before .before .before .before .before .before .before .before .before .before .args in
+    let a = c .before .before .before .before .before .before .before .before .before .before .before .before .before .before .before
+    .before .before .before .before .before .args in
     let l = c .before .before .before .before .before .before .before .before .before .before .before .before .before .before .loop in
     let on = c .before .before .before .before .before .before .before .before .before .before .before .before .if1 .taken in
     let is = c .before .before .before .before .before .before .before .before .before .before .past-blanks .ensures in
@@ -54,7 +55,8 @@ loop-less c =
 
 loop-again : tie.Need-loop-again Inv-loop μ-loop
 loop-again c =
-    let a = c .before .before .before .before .before .before .before .before .before .before .before .before .before .before .before .before .before .before .before .before .args in
+    let a = c .before .before .before .before .before .before .before .before .before .before .before .before .before .before .before
+    .before .before .before .before .before .args in
     let l = c .before .before .before .before .before .before .before .before .before .before .before .before .before .before .loop in
     let on = c .before .before .before .before .before .before .before .before .before .before .before .before .if1 .taken in
     let is = c .before .before .before .before .before .before .before .before .before .before .past-blanks .ensures in
@@ -77,7 +79,8 @@ same-length-2 : tie.Need-same-length-2 Inv-loop μ-loop
 same-length-2 c = c .before .before .before .before .loop .inv .2
 
 same-length-3 : tie.Need-same-length-3 Inv-loop μ-loop
-same-length-3 c = omega (arith, c .before .before .before .before .loop .inv .3, c .before .before .before .before .before .before .before .before .before .before .pre)
+same-length-3 c =
+    omega (arith, c .before .before .before .before .loop .inv .3, c .before .before .before .before .before .before .before .before .before .before .pre)
 
 returns : tie.Need-returns Inv-loop μ-loop
 returns c =

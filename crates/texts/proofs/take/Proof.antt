@@ -191,8 +191,12 @@ fill-requires c κs =
     room-found (a .s) (a .list .now) (a .text .now) (a .groups .now) (a .p .place) (a .p .prefix - cut .result + a .p .bytes) (got
     .result) (got .last .0)
     (got .last .1 .1 .0) (got .ensures) (c .before .before .before .before .before .before .before .before .before .before .before .if1
-    .left) in
-    (omega (arith, f .free, p .8 .used, c .before .before .before .before .before .as-it-stands .kept), p .7 .string-long, p .9, omega arith)
+    .left) in (
+      omega (arith, f .free, p .8 .used, c .before .before .before .before .before .as-it-stands .kept),
+      p .7 .string-long,
+      p .9,
+      omega arith,
+    )
 
 add-goes : tie.Need-add-goes
 add-goes c =

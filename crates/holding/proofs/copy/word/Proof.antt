@@ -44,7 +44,8 @@ returns-2 c =
     let a = c .before .before .before .before .before .before .before .before .before .before .before .before .args in
     let all : a .n - 8 + 8 ≡ a .n = omega arith in
     rw all at (c .before .before .eight-over2 .ensures
-    ∙ over (a .draft .now) (a .from) (a .out .now) _ (a .n - 8) 8 8 (c .before .before .before .before .before .before .eight-over .ensures) (omega arith)
+    ∙ over (a .draft .now) (a .from) (a .out .now) _ (a .n - 8) 8 8
+    (c .before .before .before .before .before .before .eight-over .ensures) (omega arith)
     (omega arith) (omega arith))
 
 same-length-3 : tie.Need-same-length-3

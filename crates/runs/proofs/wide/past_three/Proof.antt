@@ -1,5 +1,5 @@
--- `runs::wide::past_three` meets its contract: the loop's invariant is the contract's, and each turn passes one character of three bytes more.
--- Assumes nothing.
+-- `runs::wide::past_three` meets its contract: the loop's invariant is the contract's, and each turn passes one character of three bytes
+-- more. Assumes nothing.
 use mathlib.Core.Path.{_≡_}
 use Prim.Native.Nat.{_-_, _≤_}
 use native.Mathlib.Omega.{arith}

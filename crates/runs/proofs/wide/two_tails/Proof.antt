@@ -40,7 +40,9 @@ returns-4 c =
     let r = within-true 0xE1 0xEF b first in
     by-bound b 0xED
     (λ l. simp (third, second, inside 0xE1 0xEC b (omega (arith, r .0)) (omega arith), or-true))
-    (λ g. simp (third, second, inside 0xEE 0xEF b (omega (arith, g, c .before .before .before .before .before .if1 .left)) (omega (arith, r .1)), or-true))
+    (λ g.
+    let not-ed = c .before .before .before .before .before .if1 .left in
+    simp (third, second, inside 0xEE 0xEF b (omega (arith, g, not-ed)) (omega (arith, r .1)), or-true))
 
 pub two-tails-spec : {M : Type 1} → statement M
 two-tails-spec =
