@@ -21,7 +21,7 @@
 #include "turns.h"
 #include "verdict.h"
 
-enum { ROUNDS = 6, REPEATS = 2, PLACES = 4 };
+enum { ROUNDS = 4, REPEATS = 2, PLACES = 8 };
 
 /* The drafts of one kind and size, one right behind the other. */
 typedef struct {
@@ -39,11 +39,12 @@ typedef fast_answer fast_reader(const uint8_t *, size_t, fast_entity *, size_t, 
 
 /* Each reader stands in the program in several places, and the best one counts: where code lies makes it faster or slower, most of
  * all under an emulator, to which a jump from one page to another is dear. */
-archive_reader archive_1, archive_2, archive_3, archive_4;
-fast_reader fast_1, fast_2, fast_3, fast_4;
+archive_reader archive_1, archive_2, archive_3, archive_4, archive_5, archive_6, archive_7, archive_8;
+fast_reader fast_1, fast_2, fast_3, fast_4, fast_5, fast_6, fast_7, fast_8;
 
-static archive_reader *const archive[PLACES] = {archive_1, archive_2, archive_3, archive_4};
-static fast_reader *const fast[PLACES] = {fast_1, fast_2, fast_3, fast_4};
+static archive_reader *const archive[PLACES] = {archive_1, archive_2, archive_3, archive_4,
+                                                archive_5, archive_6, archive_7, archive_8};
+static fast_reader *const fast[PLACES] = {fast_1, fast_2, fast_3, fast_4, fast_5, fast_6, fast_7, fast_8};
 
 static vogieburn_answer by_archive(size_t place, const uint8_t *bytes, size_t len, buffers *b)
 {

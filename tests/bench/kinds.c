@@ -37,6 +37,11 @@ const kind kinds[KINDS] = {
     {"dashed-comments", "signs of three bytes in comments", put_dashed_comment, BAR, 0},
     {"capitals", "words in capitals", put_capitals, BAR, 0},
     {"data", "brackets and `_` in curly strings", put_data, BAR, 0},
+    {"signs", "words of several signs", put_signs, BAR, 0},
+    {"sums", "letters and signs by turns", put_sum, BAR, 0},
+    {"one-sign", "words with a sign in them", put_one_sign, BAR, 0},
+    {"one-pair", "a surrogate pair among letters", put_one_pair, BAR, 0},
+    {"foreign-comments", "letters of three bytes and pictures in comments", put_foreign_comment, BAR, 0},
     {"23", "a draft of 23 bytes", put_23_bytes, BAR, 23},
 };
 

@@ -7,7 +7,7 @@
 #include "draft.h"
 #include "units.h"
 
-enum { KINDS = 33, SIZES = 4 };
+enum { KINDS = 38, SIZES = 4 };
 
 /* Three of the sizes: the smallest drafts, and those between which the growth of a byte's cost is told. */
 enum { SMALL = 0, KIB_1 = 1, KIB_16 = 3 };

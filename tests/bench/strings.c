@@ -254,6 +254,37 @@ void put_pairs(making *m)
 }
 
 /* A plain Netpbm bitmap, a row to a line. */
+/* One surrogate pair among letters. */
+void put_one_pair(making *m)
+{
+    const bool curly = one_in(&m->l, 2);
+
+    put_opening(m, curly);
+    put_letters(m, below(&m->l, 8));
+    put_character(m->d, 0xD800 + (uint32_t)below(&m->l, 0x400));
+    put_character(m->d, 0xDC00 + (uint32_t)below(&m->l, 0x400));
+    put_letters(m, below(&m->l, 12));
+    put_closing(m, curly);
+    put_space(m);
+}
+
+/* Words of three bytes a letter, or with a character of four behind them. */
+void put_foreign_comment(making *m)
+{
+    put_byte(m->d, '#');
+    for (size_t left = 1 + below(&m->l, 3); left > 0; left--) {
+        put_byte(m->d, ' ');
+        if (one_in(&m->l, 2)) {
+            put_letters(m, below(&m->l, 8));
+            put_character(m->d, 0x1F300 + (uint32_t)below(&m->l, 0x300));
+        } else {
+            for (size_t letters = 1 + below(&m->l, 4); letters > 0; letters--)
+                put_character(m->d, 0x904 + (uint32_t)below(&m->l, 0x36));
+        }
+    }
+    put_byte(m->d, '\n');
+}
+
 void put_picture(making *m)
 {
     const size_t width = 4 + below(&m->l, 13), height = 2 + below(&m->l, 11);

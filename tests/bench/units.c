@@ -58,6 +58,39 @@ void put_operator(making *m)
     put_space(m);
 }
 
+/* Three signs to ten, as rules and arrows are drawn. */
+void put_signs(making *m)
+{
+    static const char signs[] = "+-*/<>=!&^~.$_";
+
+    for (size_t left = 3 + below(&m->l, 8); left > 0; left--)
+        put_byte(m->d, (unsigned char)signs[below(&m->l, sizeof signs - 1)]);
+    put_space(m);
+}
+
+/* Letters and signs by turns, as in a sum. */
+void put_sum(making *m)
+{
+    static const char signs[] = "+*<>=!&^~$";
+
+    put_letters(m, 1);
+    for (size_t left = 1 + below(&m->l, 3); left > 0; left--) {
+        put_byte(m->d, (unsigned char)signs[below(&m->l, sizeof signs - 1)]);
+        put_letters(m, 1);
+    }
+    put_space(m);
+}
+
+void put_one_sign(making *m)
+{
+    static const char signs[] = "+*<>=!&^~$'?";
+
+    put_letters(m, 1 + below(&m->l, 5));
+    put_byte(m->d, (unsigned char)signs[below(&m->l, sizeof signs - 1)]);
+    put_letters(m, below(&m->l, 5));
+    put_space(m);
+}
+
 void put_indented(making *m)
 {
     put_many(m->d, ' ', 4 * below(&m->l, 8));

@@ -17,12 +17,12 @@ typedef struct {
 /* Puts one unit, drawn by lot, and what parts it from the next one. */
 typedef void unit(making *m);
 
-unit put_word, put_one_letter, put_capitals, put_signed_name, put_compound, put_operator, put_indented, put_numbers, put_tabbed,
-    put_empty_array, put_strings, put_groups, put_metacommand;
+unit put_word, put_one_letter, put_capitals, put_signed_name, put_compound, put_operator, put_signs, put_sum, put_one_sign,
+    put_indented, put_numbers, put_tabbed, put_empty_array, put_strings, put_groups, put_metacommand;
 
-unit put_long_string, put_wide_string, put_short_string, put_escapes, put_nested, put_pairs, put_picture, put_prefixed, put_accented,
-    put_dashes, put_lines, put_comment, put_wide_comment, put_short_comment, put_accented_comment,
-    put_dashed_comment, put_data;
+unit put_long_string, put_wide_string, put_short_string, put_escapes, put_nested, put_pairs, put_one_pair, put_picture,
+    put_prefixed, put_accented, put_dashes, put_lines, put_comment, put_wide_comment, put_short_comment, put_accented_comment,
+    put_dashed_comment, put_foreign_comment, put_data;
 
 /* A weaver's statement; and the same with CR LF at the ends of lines. The first statements of a draft are one of each sort, and where
  * there is little room the first one has all of them in it. */
