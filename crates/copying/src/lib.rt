@@ -20,7 +20,7 @@ pub enum Copied {
 }
 
 // A re-encoded character of four bytes at a place of a part.
-fn put_four(out: &mut [u8], at: usize, bytes: [u8; 4])
+pub fn put_four(out: &mut [u8], at: usize, bytes: [u8; 4])
     requires { ⌜ at + 4 ≤ length (now out) ⌝ }
     ensures { λ r. ⌜ now (out .exit) ≡ paste (now (out .entry)) at bytes 4 ⌝ }
 {
@@ -171,7 +171,7 @@ fn next(draft: &[u8], i: usize) -> Character
 }
 
 // The number of the pair at a place, or 0 where none stands there or its four bytes are too many.
-fn pair_within(draft: &[u8], i: usize, most: usize) -> u32
+pub fn pair_within(draft: &[u8], i: usize, most: usize) -> u32
     ensures { λ r. ⌜ (0 < r → (characterAt (now (draft .entry)) i ≡ Clean r (i + 6)) × (0x10000 ≤ r) × (4 ≤ most)) ⌝ }
 {
     if most < 4 {

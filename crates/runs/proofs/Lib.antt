@@ -1,6 +1,5 @@
 pub mod Bytewise
 pub mod Flags
 pub mod Bytes
-pub mod Widths
 pub mod Blanks
 pub mod Unique

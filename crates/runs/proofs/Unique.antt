@@ -1,4 +1,4 @@
--- No second answer meets the contract of a public function of `runs`, but for those of `eight` and `wide`, which may stop early.
+-- No second answer meets the contract of a public function of `runs`, but for those of `eight`, which may stop early.
 use Prim.Native.Nat.{ℕ, _<_, _≤_}
 use mathlib.Core.Path.{_≡_, refl, sym, _∙_}
 use mathlib.Core.Bool.{true, false, true≢false}
@@ -15,6 +15,9 @@ past-blanks κs given a b x y = one
 
 pub begins : OneAnswer fn.byte.begins.Kinds.ps fn.byte.begins.Kinds.r fn.byte.begins.Reads.Post
 begins κs given a b x y = one
+
+pub goes-on : OneAnswer fn.byte.goes_on.Kinds.ps fn.byte.goes_on.Kinds.r fn.byte.goes_on.Reads.Post
+goes-on κs given a b x y = one
 
 pub ends : OneAnswer fn.byte.ends.Kinds.ps fn.byte.ends.Kinds.r fn.byte.ends.Reads.Post
 ends κs given a b x y = one

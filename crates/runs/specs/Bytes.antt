@@ -1,9 +1,10 @@
 -- Sorts of bytes that the straight ways ask for, in the words of 004, section 3.1. Nothing here says more of the format than Sorts does.
-use Prim.Native.Nat.{ℕ, suc, _+_, _<_, _≤_}
+use Prim.Native.Nat.{ℕ, suc, _+_, _/_, _^_, _<_, _≤_}
 use mathlib.Core.Path.{_≡_}
-use mathlib.Core.Bool.{Bool, true, not, _&&_, _||_}
+use mathlib.Core.Bool.{Bool, true, not, _&&_}
 use mathlib.Core.List.{List, [], _∷_}
-use lib.Dec.{eqb}
+use lib.Bits.{bitAnd}
+use lib.Dec.{eqb, leb}
 use lib.ListN.{length, getD}
 use Rattle.chars.specs.Choice.{if_then_else_, within}
 use Rattle.tokens.specs.Sorts.{visible, white, atomic, exclusive, inclusive}
@@ -43,9 +44,14 @@ endsOf b =
     else if visible b then 3
     else 0
 
--- what words are mostly made of: letters, digits and - . / : @ _ `
-unfoldable pub common : (b : ℕ) → Bool
-common b = within 0x2D 0x3A b || (within 0x40 0x5A b || within 0x5F 0x7A b)
+-- what goes on with a token
+unfoldable pub goesOn : (b : ℕ) → Bool
+goesOn b = eqb (endsOf b) 3
+
+-- Visible, and not listed: a list has a bit for each character, `below` those below `@` and `from` those from there on.
+unfoldable pub unlisted : (below from b : ℕ) → Bool
+unlisted below from b =
+    let listed = if leb 0x40 b then from else below in visible b && eqb (bitAnd (listed / 2 ^ bitAnd b 0x3F) 1) 0
 
 -- what comments are mostly made of: SP, visible characters and DEL
 unfoldable pub remark : (b : ℕ) → Bool
@@ -66,6 +72,11 @@ settled b = not (eqb b 0x0D) && not (eqb b 0xED)
 abbrev pub Flags : (test : ℕ → Bool) → (w flags : ℕ) → Type 0
 Flags test w flags =
     (i : ℕ) → i < 8 → getD (bytesOf 8 flags) i 0 ≡ 0 → test (getD (bytesOf 8 w) i 0) ≡ true
+
+-- Likewise of the eight bytes of a draft from `at` on.
+abbrev pub Looked : (test : ℕ → Bool) → (draft : List ℕ) → (at flags : ℕ) → Type 0
+Looked test draft at flags =
+    (i : ℕ) → i < 8 → getD (bytesOf 8 flags) i 0 ≡ 0 → test (getD draft (at + i) 0) ≡ true
 
 -- bytes of a draft from `at` up to `r`, each of which passes a test
 pub record Passed (test : ℕ → Bool) (draft : List ℕ) (at r : ℕ) : Type 0 where

@@ -7,7 +7,7 @@ ghost use lib.ListN.{length, getD};
 ghost use Rattle.chars.specs.Character.{characterAt};
 ghost use Rattle.chars.specs.declared.Character.the-variants.{Clean};
 ghost use Rattle.tokens.specs.Sorts.{visible as visibleBy, exclusive as exclusiveBy, inclusive as inclusiveBy};
-ghost use Rattle.runs.specs.Bytes.{beginsOf, endsOf};
+ghost use Rattle.runs.specs.Bytes.{beginsOf, endsOf, goesOn, unlisted as unlistedBy};
 
 // Visible US-ASCII.
 fn visible(b: u8) -> bool
@@ -39,7 +39,7 @@ fn inclusive(b: u8) -> bool
     }
 }
 
-// The characters that begin no word, those below `@` and those from there on: a bit for each.
+// The characters that end a word, those below `@` and those from there on: a bit for each. No word begins with one of these or with `|`.
 const BELOW: u64 = (1u64 << b'"')
     | (1u64 << b'#')
     | (1u64 << b'%')
@@ -51,25 +51,37 @@ const BELOW: u64 = (1u64 << b'"')
 const FROM: u64 = (1u64 << (b'[' - b'@'))
     | (1u64 << (b']' - b'@'))
     | (1u64 << (b'{' - b'@'))
-    | (1u64 << (b'|' - b'@'))
     | (1u64 << (b'}' - b'@'));
 
-// Whether a byte begins a word and nothing else. It is told by its bit, since a processor could not guess comparisons: words begin with
-// letters, digits and signs as it comes.
+const BAR: u64 = 1u64 << (b'|' - b'@');
+
+// Whether a byte is visible and not listed, below `@` in one list and from there on in another. It is told by its bit, since a processor
+// could not guess comparisons: words are made of letters, digits and signs as it comes.
+fn unlisted(b: u8, below: u64, from: u64) -> bool
+    ensures { λ r. ⌜ r ≡ unlistedBy below from b ⌝ }
+{
+    if !visible(b) {
+        return false;
+    }
+    let mut listed = below;
+    if b'@' <= b {
+        listed = from;
+    }
+    (listed >> (b & 0x3F)) & 1 == 0
+}
+
+// Whether a byte begins a word and nothing else.
 fn begins_word(b: u8) -> bool
     ensures { λ r. ⌜ r ≡ eqb (beginsOf b) 6 ⌝ }
 {
-    if b < 0x21 {
-        return false;
-    }
-    if 0x7E < b {
-        return false;
-    }
-    let mut listed = BELOW;
-    if b'@' <= b {
-        listed = FROM;
-    }
-    (listed >> (b & 0x3F)) & 1 == 0
+    unlisted(b, BELOW, FROM | BAR)
+}
+
+// Whether a byte goes on with a word.
+pub fn goes_on(b: u8) -> bool
+    ensures { λ r. ⌜ r ≡ goesOn b ⌝ }
+{
+    unlisted(b, BELOW, FROM)
 }
 
 // What a byte begins (specs/Bytes.antt, beginsOf), of those below `-` that begin no word. `"` is told by a range,
@@ -144,14 +156,14 @@ pub fn ends(b: u8) -> u32
     if b == b'\n' {
         return 1;
     }
+    if goes_on(b) {
+        return 3;
+    }
     if exclusive(b) {
         return 1;
     }
     if inclusive(b) {
         return 2;
-    }
-    if visible(b) {
-        return 3;
     }
     0
 }

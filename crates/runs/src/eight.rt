@@ -5,13 +5,13 @@ ghost use mathlib.Core.Bool.{true, false};
 ghost use Prim.Native.Nat.{ℕ, _<_, _≤_};
 ghost use lib.ListN.{length, getD};
 ghost use Rattle.tokens.specs.Runs.{bytesOf};
-ghost use Rattle.runs.specs.Bytes.{common, remark, plain, Flags, Passed};
+ghost use Rattle.runs.specs.Bytes.{goesOn, remark, plain, Flags, Passed};
 use tokens::number::eight;
 
 // A flag for each byte that words are not mostly made of: those below `-` and those that are not US-ASCII, and but for `_` the last five of
 // each thirty-two, `;` to `?`, `[` to `_` and from `{` on.
-fn word_flags(w: u64) -> u64
-    ensures { λ r. ⌜ Flags common w r ⌝ }
+pub fn word_flags(w: u64) -> u64
+    ensures { λ r. ⌜ Flags goesOn w r ⌝ }
 {
     let x = w & 0x7F7F7F7F7F7F7F7F;
     let low = x + 0x5353535353535353;
@@ -63,58 +63,21 @@ fn plain_flags(w: u64, curly: bool) -> u64
 
 // How many bytes stand before the first flag.
 pub fn before_flag(flags: u64) -> usize
-    ensures { λ r. ⌜ (r ≤ 8) × ((i : ℕ) → i < r → getD (bytesOf 8 flags) i 0 ≡ 0) ⌝ }
+    ensures { λ r. ⌜ (r ≤ 8) × ((i : ℕ) → i < r → getD (bytesOf 8 flags) i 0 ≡ 0)
+        × ((flags ≡ 0 → ⊥) → (r < 8) × (getD (bytesOf 8 flags) r 0 ≡ 0 → ⊥)) ⌝ }
 {
     let bits = u64::trailing_zeros(flags);
     (bits / 8) as usize
 }
 
-// Whether words are mostly made of a byte.
-fn usual(b: u8) -> bool
-    ensures { λ r. ⌜ (r ≡ true → common b ≡ true) ⌝ }
+// The flags without the first one, before which `k` bytes stand.
+pub fn behind_flag(flags: u64) -> u64
+    requires { ⌜ (flags ≡ 0 → ⊥) ⌝ }
+    ensures { λ r. ⌜ (r < flags)
+        × ((k i : ℕ) → ((j : ℕ) → j < k → getD (bytesOf 8 flags) j 0 ≡ 0) → (getD (bytesOf 8 flags) k 0 ≡ 0 → ⊥) → (i ≡ k → ⊥)
+        → getD (bytesOf 8 r) i 0 ≡ 0 → getD (bytesOf 8 flags) i 0 ≡ 0) ⌝ }
 {
-    if b'_' <= b {
-        return b < b'{';
-    }
-    if b'@' <= b {
-        return b < b'[';
-    }
-    if b < b'-' {
-        return false;
-    }
-    b < b';'
-}
-
-// From `at` on, behind such bytes, one by one: for a draft's last bytes, of which there are no eight.
-fn past_few(draft: &[u8], at: usize) -> usize
-    requires { ⌜ at ≤ length (now draft) ⌝ }
-    ensures { λ r. ⌜ Passed common (now (draft .entry)) at r ⌝ }
-{
-    let mut i = at;
-    while i < draft.len() {
-        if !usual(draft[i]) {
-            return i;
-        }
-        i += 1;
-    }
-    i
-}
-
-// From `at` on, behind bytes that words are mostly made of.
-pub fn past_common(draft: &[u8], at: usize) -> usize
-    requires { ⌜ at ≤ length (now draft) ⌝ }
-    ensures { λ r. ⌜ Passed common (now (draft .entry)) at r ⌝ }
-{
-    let end = draft.len();
-    let mut i = at;
-    while 8 <= end - i {
-        let flags = word_flags(eight(draft, i));
-        if flags != 0 {
-            return i + before_flag(flags);
-        }
-        i += 8;
-    }
-    past_few(draft, i)
+    flags & (flags - 1)
 }
 
 // From `at` on, behind bytes that comments are mostly made of.

@@ -12,7 +12,7 @@ use Rattle.chars.proofs.Streams.{plain}
 use Rattle.tokens.specs.Runs.{pastComment}
 use Rattle.tokens.proofs.Skipping.{reaches, comment-ends, comment-on}
 use Rattle.runs.specs.Bytes.{remark, Passed}
-use Rattle.runs.specs.Wide.{Wides, none, more}
+use Rattle.wide.specs.Wide.{Wides, none, more}
 
 -- inside a comment, with nothing passed from `at` up to `i` that ends it
 pub record Inside (draft : List ℕ) (at i : ℕ) : Type 0 where

@@ -23,7 +23,7 @@ use Rattle.tokens.specs.Runs.{sortOf, openedAs}
 use Rattle.tokens.proofs.Skipping.{by-character, reaches, no-mark}
 use Rattle.tokens.proofs.Strings.{closes-here, goes-on}
 use Rattle.runs.specs.Bytes.{plain, Passed}
-use Rattle.runs.specs.Wide.{Wider, Wides, none, more}
+use Rattle.wide.specs.Wide.{Wider, Wides, none, more}
 use Rattle.scan.specs.Data.{Even, Goes}
 use Rattle.scan.specs.Found.{Closed}
 

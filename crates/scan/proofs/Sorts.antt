@@ -13,7 +13,7 @@ use Rattle.tokens.specs.Sorts.{visible, white, atomic, exclusive, inclusive, le
 use Rattle.tokens.specs.Runs.{classOf}
 use Rattle.tokens.proofs.Table.{below, implied, if-then}
 use Rattle.tokens.proofs.Classes.{Ending}
-use Rattle.runs.specs.Bytes.{beginsOf, endsOf, common}
+use Rattle.runs.specs.Bytes.{beginsOf, endsOf}
 
 -- what stands in a list of bytes of US-ASCII is one
 abbrev all-low : List ℕ → Bool
@@ -99,18 +99,7 @@ ends-own b h =
     leb-true 1 (classOf b)
     (implied (λ j. leb 1 (endsOf j)) (λ j. leb 1 (classOf j)) 0x80 refl b (ends-low b h) (le-leb 1 (endsOf b) h))
 
--- what words are mostly made of, and what goes on with a token: classes 3 and 4
-pub common-plain : (b : ℕ) → common b ≡ true → (3 ≤ classOf b) × (classOf b ≤ 4)
-unfolding common classOf visible white atomic exclusive inclusive legal
-common-plain b t =
-    let low : b < 0x80 =
-    either (within 0x2D 0x3A b)
-    (λ u. omega (arith, within-true 0x2D 0x3A b u .1))
-    (λ u. either (within 0x40 0x5A b)
-    (λ v. omega (arith, within-true 0x40 0x5A b v .1))
-    (λ v. omega (arith, within-true 0x5F 0x7A b (rw (u, v) at t) .1))) in
-    within-true 3 4 (classOf b) (implied common (λ j. within 3 4 (classOf j)) 0x80 refl b low t)
-
+-- what goes on with a token: classes 3 and 4
 pub ends-plain : (b : ℕ) → endsOf b ≡ 3 → (3 ≤ classOf b) × (classOf b ≤ 4)
 unfolding endsOf classOf visible white atomic exclusive inclusive legal
 ends-plain b e = classed endsOf 3 3 4 refl b (ends-low b (omega arith)) e

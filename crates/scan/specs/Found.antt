@@ -10,7 +10,7 @@ use Rattle.tokens.specs.Tokens.{tokens, between, word, string, closed, first, s
 use Rattle.tokens.specs.Runs.{openedAs}
 use Rattle.tokens.specs.declared.Token.{Token}
 use Rattle.tokens.specs.declared.Token.the-variants.{Simple, Quoted, Curly, Last, Refused}
-use Rattle.runs.specs.Bytes.{endsOf}
+use Rattle.runs.specs.Bytes.{endsOf, goesOn, Passed}
 use Rattle.scan.specs.declared.Piece.{Piece}
 
 -- a string whose data begins at `from` is closed by the byte before `after`, behind `n` clean bytes, whatever its prefix
@@ -21,6 +21,13 @@ pub record Closed (draft : List ℕ) (curly : Bool) (from after n : ℕ) : Type 
       (place prefix : ℕ)
       → first (tokens limits (string (openedAs curly place prefix from) 0 1 false) (streamAt draft from))
       ≡ shown (closed (openedAs curly place prefix from) after n)
+
+-- bytes from `at` on that go on with a token that began at `begun`, up to `i`, where one stands that says `how`, within the limit
+pub record Stops (draft : List ℕ) (begun at i how : ℕ) : Type 0 where
+  pub passed : Passed goesOn draft at i
+  pub there : i < length draft
+  pub ends : endsOf (getD draft i 0) ≡ how
+  pub short : i - begun ≤ 255
 
 -- a token that began at `begun` and goes on up to `i`, where US-ASCII stands that ends it (`how` is 1) or opens a string (2)
 pub record Worded (draft : List ℕ) (begun i how : ℕ) : Type 0 where

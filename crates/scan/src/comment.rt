@@ -7,8 +7,8 @@ ghost use Rattle.chars.specs.Character.{characterAt};
 ghost use Rattle.tokens.specs.Runs.{pastComment};
 use runs::byte::is_line;
 use runs::eight::past_remark;
-use runs::wide::past_narrow;
-use runs::wide::past_wide;
+use wide::past_wide;
+use wide::past_widths;
 
 // From `at` on, inside a comment, the byte after the LF that ends it; or 0, which says nothing.
 pub fn comment_end(draft: &[u8], at: usize) -> usize
@@ -38,7 +38,7 @@ pub fn comment_end(draft: &[u8], at: usize) -> usize
         if b < 0x80 {
             from = i + 1;
         } else {
-            from = past_narrow(draft, i);
+            from = past_widths(draft, i);
             if from == i {
                 let reach = past_wide(&draft[..], i);
                 from = reach.after;

@@ -9,9 +9,9 @@ ghost use Rattle.scan.specs.Found.{Closed};
 use chars::limits;
 use runs::byte::is_line;
 use runs::eight::past_plain;
-use runs::wide::Reach;
-use runs::wide::past_narrow;
-use runs::wide::past_wide;
+use wide::Reach;
+use wide::past_narrow;
+use wide::past_wide;
 
 // The byte after the one that closes a string, and how many clean bytes its data has. 0 for the byte says nothing.
 pub struct Data {

@@ -11,7 +11,8 @@ use Rattle.reading.proofs.walk.Tie as tie
 
 abbrev Inv-loop : tie.InvT-loop
 Inv-loop draft list₀ text₀ groups₀ r₀ list text groups r =
-    Behind draft list₀ text₀ list text groups (turn r) × (length list ≡ length list₀) × (length text ≡ length text₀) × (length groups ≡ 64)
+    Behind draft list₀ text₀ list text groups (turn r) × (length list ≡ length list₀) × (length text ≡ length text₀) ×
+    (length groups ≡ 64)
 
 abbrev μ-loop : tie.MeasureT-loop
 μ-loop draft list₀ text₀ groups₀ r₀ list text groups r = left draft (turn r)
@@ -80,7 +81,12 @@ same-length-2 c = c .before .before .before .before .loop .inv .2
 
 same-length-3 : tie.Need-same-length-3 Inv-loop μ-loop
 same-length-3 c =
-    omega (arith, c .before .before .before .before .loop .inv .3, c .before .before .before .before .before .before .before .before .before .before .pre)
+    omega (
+      arith,
+      c .before .before .before .before .loop .inv .3,
+      c .before .before .before .before .before .before .before
+          .before .before .before .pre,
+    )
 
 returns : tie.Need-returns Inv-loop μ-loop
 returns c =

@@ -52,7 +52,7 @@ lines-requires c κs =
     let a = c .before .before .before .before .before .before .args in
     let p = c .before .before .before .before .before .before .pre in
     let same = from-line-feed (a .draft .now) (a .from) (a .n) (p .1) (p .3) (c .before .if2 .taken) in
-    (search needs, rw (← same) (p .1))
+    (search needs, rw (← same) (p .1), p .3)
 
 sub-lines-2 : tie.Need-sub-lines-2
 sub-lines-2 c = search needs

@@ -2,7 +2,7 @@
 use Prim.Native.Nat.{_/_}
 use native.Mathlib.Omega.{arith}
 use lib.Count.{trailingZeros, trailing-le}
-use Rattle.runs.proofs.Flags.{trailing-bytes}
+use Rattle.runs.proofs.Flags.{trailing-bytes, first-byte}
 use Rattle.runs.proofs.eight.before_flag.Statement.{statement}
 use Rattle.runs.proofs.eight.before_flag.Tie as tie
 
@@ -13,7 +13,7 @@ returns : tie.Need-returns
 returns c =
     let n = c .args .flags in
     let t = trailing-le 64 n in
-    (omega (arith, t), trailing-bytes 64 n (trailingZeros 64 n / 8) (omega arith))
+    (omega (arith, t), trailing-bytes 64 n (trailingZeros 64 n / 8) (omega arith), first-byte n (c .fits .flags .fits))
 
 pub before-flag-spec : {M : Type 1} → statement M
 before-flag-spec = tie.close (tie.spec cast-result returns)

@@ -7,8 +7,9 @@ use lib.Bits.{bitAnd, bitOr, bitXor, and-le-r}
 use lib.Dec.{eqb}
 use borrow.Author.Tests.{eq-eqb}
 use Rattle.tokens.specs.Runs.{bytesOf}
+use Rattle.tokens.specs.Sorts.{visible, exclusive, inclusive}
 use Rattle.tokens.proofs.Table.{implied}
-use Rattle.runs.specs.Bytes.{common}
+use Rattle.runs.specs.Bytes.{endsOf, goesOn}
 use Rattle.runs.proofs.Bytewise.{Made, itself, always, raised, turned, made-fits, made-flags, made-and, made-or, made-xor, made-sum}
 use Rattle.runs.proofs.eight.word_flags.Statement.{statement}
 use Rattle.runs.proofs.eight.word_flags.Tie as tie
@@ -51,10 +52,10 @@ add-other : tie.Need-add-other
 add-other c = record { fits = made-fits (turned (c .args .w) (c .fits .w .fits) 0x5F 0x7F (omega arith) (omega arith)) }
 
 returns : tie.Need-returns
-unfolding common
+unfolding goesOn endsOf visible exclusive inclusive
 returns c =
-    made-flags (flags (c .args .w) (c .fits .w .fits)) common
-    (λ b l e. implied (λ k. eqb (made k) 0) common 256 refl b l (eq-eqb (made b) 0 e))
+    made-flags (flags (c .args .w) (c .fits .w .fits)) goesOn
+    (λ b l e. implied (λ k. eqb (made k) 0) goesOn 256 refl b l (eq-eqb (made b) 0 e))
 
 pub word-flags-spec : {M : Type 1} → statement M
 word-flags-spec = tie.close (tie.spec add-low add-high add-other returns)

@@ -84,8 +84,8 @@ loop-again c =
     one-byte (a .draft .now) (a .at) i (here p) (omega arith) there (omega arith) (c .before .before .if3 .left)
     (c .before .before .before .if2 .left)
 
-past-narrow-requires : tie.Need-past-narrow-requires Inv-loop μ-loop
-past-narrow-requires c κs = search needs
+past-widths-requires : tie.Need-past-widths-requires Inv-loop μ-loop
+past-widths-requires c κs = search needs
 
 past-wide-requires : tie.Need-past-wide-requires Inv-loop μ-loop
 past-wide-requires c κs = search needs
@@ -106,14 +106,14 @@ loop-again-2 c =
 
 loop-less-3 : tie.Need-loop-less-3 Inv-loop μ-loop
 loop-less-3 c =
-    let w = c .before .past-narrow .ensures in
+    let w = c .before .past-widths .ensures in
     let p = c .before .before .before .before .before .before .before .before .past-remark .ensures in
     omega (arith, p .on, forth (w .0), w .1, c .if7 .left)
 
 loop-again-3 : tie.Need-loop-again-3 Inv-loop μ-loop
 loop-again-3 c =
     let p = c .before .before .before .before .before .before .before .before in
-    foreign (here p) (c .before .past-narrow .ensures .0)
+    foreign (here p) (c .before .past-widths .ensures .0)
 
 pub comment-end-spec : {M : Type 1} → statement M
 comment-end-spec =
@@ -135,7 +135,7 @@ comment-end-spec =
     add-from
     loop-less
     loop-again
-    past-narrow-requires
+    past-widths-requires
     past-wide-requires
     returns-6
     loop-less-2
