@@ -11,6 +11,7 @@ use runs::byte::is_line;
 use runs::eight::past_plain;
 use wide::Reach;
 use wide::past_narrow;
+use wide::past_pairs;
 use wide::past_wide;
 
 // The byte after the one that closes a string, and how many clean bytes its data has. 0 for the byte says nothing.
@@ -81,6 +82,10 @@ fn other(draft: &[u8], i: usize) -> Reach
                 after: narrow,
                 less: 0,
             };
+        }
+        let pairs = past_pairs(draft, i);
+        if pairs.after != i {
+            return pairs;
         }
         return past_wide(&draft[..], i);
     }

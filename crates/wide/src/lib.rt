@@ -238,3 +238,25 @@ pub fn past_wide(draft: &[u8], at: usize) -> Reach
     }
     Reach { after: i, less }
 }
+
+// The same of surrogate pairs alone. It is short enough to be put into its caller.
+pub fn past_pairs(draft: &[u8], at: usize) -> Reach
+    requires { ⌜ at ≤ length (now draft) ⌝ }
+    ensures { λ r. ⌜ Wides (now (draft .entry)) at (r .after) (r .less) × (r .after ≤ length (now (draft .entry))) ⌝ }
+{
+    let mut i = at;
+    let mut less: usize = 0;
+    while 6 <= draft.len() - i {
+        if draft[i] != 0xED {
+            return Reach { after: i, less };
+        }
+        let w = pair(draft, i);
+        let bytes = w.bytes;
+        if bytes == 0 {
+            return Reach { after: i, less };
+        }
+        less += w.less;
+        i += bytes;
+    }
+    Reach { after: i, less }
+}

@@ -15,16 +15,6 @@ use Rattle.tokens.proofs.Clean.{clean-zero, clean-full, clean-none}
 use Rattle.tokens.proofs.Skipping.{reaches}
 use Rattle.copying.proofs.copy.Statement.{statement}
 use Rattle.copying.proofs.copy.Tie as tie
-use Rattle.copying.proofs.copy.Reads as reads
-use Rattle.copying.proofs.copy.Lts as lts
-use Rattle.chars.proofs.encode.Reads as encode-reads
-use Rattle.chars.proofs.encoded_length.Reads as encoded-length-reads
-use Rattle.copying.proofs.ahead.Reads as ahead-reads
-use Rattle.copying.proofs.kept.Reads as kept-reads
-use Rattle.copying.proofs.next.Reads as next-reads
-use Rattle.copying.proofs.pair_within.Reads as pair-within-reads
-use Rattle.copying.proofs.put.Reads as put-reads
-use Rattle.copying.proofs.put_four.Reads as put-four-reads
 
 abbrev Inv-loop : tie.InvT-loop
 Inv-loop draft from n out₀ i₀ k₀ out i k = Copying draft from n out₀ out i k × Fits w64 i
@@ -110,29 +100,7 @@ add-i-2 c =
 
 -- what stands there behind the bytes that stay as they are
 abbrev Behind : Type 0
-Behind =
-    lts.After-kept (
-      pair-within-reads.Asked,
-      pair-within-reads.Learnt,
-      encode-reads.Asked,
-      encode-reads.Learnt,
-      put-four-reads.Asked,
-      put-four-reads.Learnt,
-      ahead-reads.Asked,
-      ahead-reads.Learnt,
-      kept-reads.Asked,
-      kept-reads.Learnt,
-      next-reads.Asked,
-      next-reads.Learnt,
-      encoded-length-reads.Asked,
-      encoded-length-reads.Learnt,
-      put-reads.Asked,
-      put-reads.Learnt,
-    )
-    reads.Pre
-    reads.Post
-    Inv-loop
-    μ-loop
+Behind = tie.After-kept Inv-loop μ-loop
 
 front :
     (c : Behind)

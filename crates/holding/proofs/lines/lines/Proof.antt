@@ -1,8 +1,7 @@
 -- `holding::lines::lines` meets its contract. The invariant is the copier's: so many clean bytes stand at the front, and behind them the
 -- part is as it was lent. A turn copies bytes as they stand, and passes over one CR or re-encodes one surrogate pair. Assumes nothing.
 use mathlib.Core.Path.{_≡_, sym, _∙_, ap}
-use mathlib.Core.List.{List}
-use Prim.Native.Nat.{ℕ, _+_, _-_, _<_, _≤_}
+use Prim.Native.Nat.{_+_, _-_, _<_, _≤_}
 use native.Mathlib.Omega.{arith}
 use lib.ListN.{length, take, drop, length-drop, length-take}
 use borrow.Author.Needs.{needs}
@@ -15,14 +14,6 @@ use Rattle.holding.proofs.Filling.{copied-front, part-filled}
 use Rattle.holding.proofs.Returns.{rest-whole, room, advance-run, past-return, copied-rest, copied-all}
 use Rattle.holding.proofs.lines.lines.Statement.{statement}
 use Rattle.holding.proofs.lines.lines.Tie as tie
-use Rattle.holding.proofs.lines.lines.Reads as reads
-use Rattle.holding.proofs.lines.lines.Lts as lts
-use Rattle.chars.proofs.encode.Reads as encode-reads
-use Rattle.runs.proofs.settled.past_settled.Reads as past-settled-reads
-use Rattle.holding.proofs.copy.long.Reads as long-reads
-use Rattle.copying.proofs.copy.Reads as copy-reads
-use Rattle.copying.proofs.pair_within.Reads as pair-within-reads
-use Rattle.copying.proofs.put_four.Reads as put-four-reads
 
 abbrev Inv-loop : tie.InvT-loop
 Inv-loop draft from n out₀ i₀ k₀ out i k =
@@ -110,25 +101,7 @@ add-k c =
 
 -- what stands there behind the bytes that are copied as they stand
 abbrev Behind : Type 0
-Behind =
-    lts.After-long (
-      copy-reads.Asked,
-      copy-reads.Learnt,
-      past-settled-reads.Asked,
-      past-settled-reads.Learnt,
-      long-reads.Asked,
-      long-reads.Learnt,
-      pair-within-reads.Asked,
-      pair-within-reads.Learnt,
-      encode-reads.Asked,
-      encode-reads.Learnt,
-      put-four-reads.Asked,
-      put-four-reads.Learnt,
-    )
-    reads.Pre
-    reads.Post
-    Inv-loop
-    μ-loop
+Behind = tie.After-long Inv-loop μ-loop
 
 front :
     (h : Behind)
@@ -250,25 +223,7 @@ put-four-requires c κs =
 
 -- what stands there behind a pair
 abbrev Re-encoded : Type 0
-Re-encoded =
-    lts.After-put-four (
-      copy-reads.Asked,
-      copy-reads.Learnt,
-      past-settled-reads.Asked,
-      past-settled-reads.Learnt,
-      long-reads.Asked,
-      long-reads.Learnt,
-      pair-within-reads.Asked,
-      pair-within-reads.Learnt,
-      encode-reads.Asked,
-      encode-reads.Learnt,
-      put-four-reads.Asked,
-      put-four-reads.Learnt,
-    )
-    reads.Pre
-    reads.Post
-    Inv-loop
-    μ-loop
+Re-encoded = tie.After-put-four Inv-loop μ-loop
 
 -- the pair
 two-are : (q : Re-encoded) → 0 < q .before .before .before .before .before .pair-within .result
