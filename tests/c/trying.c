@@ -33,10 +33,15 @@ void told(const char *what)
     all_held = true;
 }
 
+bool some_failed(void)
+{
+    return failed > 0;
+}
+
 bool told_all(void)
 {
     printf("%zu passed, %zu failed\n", passed, failed);
-    return failed == 0;
+    return !some_failed();
 }
 
 named draft_of(const void *name, size_t name_len)

@@ -24,6 +24,9 @@ void tried(bool is_sound, bool held);
 /* Ends what is told in one line, and says what it was. */
 void told(const char *what);
 
+/* Whether a line failed so far. */
+bool some_failed(void);
+
 /* Counts the lines: 'N passed, M failed'. Answers whether none failed. */
 bool told_all(void);
 
