@@ -1,4 +1,7 @@
 // The check of what was read, over the list's numbers and the text as they lie in the lent buffers: document 01, "Cells and operations".
+
+#![tactic(auto)]
+
 ghost use Rattle.std.specs.Prelude.{◌≡◌, true};
 ghost use Rattle.chars.specs.Limits.{limits};
 ghost use Rattle.table.specs.Entered.{sound, row_count, operations_of, Entered};
@@ -13,7 +16,7 @@ use sight::row::{count_of, kind_of, place_of};
 use sight::{Counts, Move, hide, push, show};
 
 // How a check ended: 0 or the rule that stopped it, the place of the entity, the entities handled, and the cells that remain.
-#[derive(Drop)]
+#[derive(Clone, Copy)]
 pub struct Outcome {
     pub number: u32,
     pub place: u32,

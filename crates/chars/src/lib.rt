@@ -1,4 +1,7 @@
 // From bytes to characters: Shastina Specification, section 2, and document 01, "From bytes to characters".
+
+#![tactic(auto)]
+
 ghost use Rattle.std.specs.Prelude.{◌≡◌, ◌++◌, ◌+◌, ◌-◌, ◌*◌, ◌^◌, ◌<◌, ◌≤◌, length, take, drop, replicate};
 ghost use Rattle.chars.specs.Choice.{same};
 ghost use Rattle.chars.specs.Character.{continued as continued_by, lowest, highest, sequence, paired as paired_by, judged as judged_by};
@@ -8,7 +11,7 @@ ghost use Rattle.chars.specs.Stream.{start as start_of};
 pub mod limits;
 
 // What the bytes at a place are by RFC 3629, surrogates let through.
-#[derive(Drop)]
+#[derive(Clone, Copy)]
 pub enum Sequence {
     // A number, and the byte after its sequence.
     Whole { number: u32, after: usize },
@@ -17,7 +20,7 @@ pub enum Sequence {
 }
 
 // What stands at a place of a draft.
-#[derive(Drop)]
+#[derive(Clone, Copy)]
 pub enum Character {
     // A character after cleaning: its number, and the byte after the bytes that it took.
     Clean { number: u32, after: usize },
@@ -219,7 +222,7 @@ pub fn character_at(draft: &[u8], at: usize) -> Character
 }
 
 // A character re-encoded: one to four bytes of UTF-8, and zeros behind them.
-#[derive(Drop)]
+#[derive(Clone, Copy)]
 pub struct Encoded {
     pub bytes: [u8; 4],
     pub length: usize,

@@ -1,4 +1,7 @@
 // The check: a draft read and checked against a table of operations (document 01, "The calls", "Cells and operations" and "Order").
+
+#![tactic(auto)]
+
 ghost use Rattle.std.specs.Prelude.{◌≡◌, true, eqb};
 ghost use Rattle.chars.specs.Choice.{if◌then◌else◌};
 ghost use Rattle.chars.specs.Limits.{limits};

@@ -1,4 +1,7 @@
 // The copier of one string's clean data, or of one word.
+
+#![tactic(auto)]
+
 ghost use Rattle.std.specs.Prelude.{◌≡◌, true, ℕ, ◌+◌, ◌-◌, ◌*◌, ◌<◌, ◌≤◌, length, get_or, drop};
 ghost use Rattle.std.proofs.Math.Seq.{paste};
 ghost use Rattle.chars.specs.Character.{sequence, character_at};
@@ -10,7 +13,7 @@ ghost use Rattle.copying.specs.Copy.{copied, copied_into};
 use chars::Character;
 
 // What the copier did.
-#[derive(Drop)]
+#[derive(Clone, Copy)]
 pub enum Copied {
     // So many clean bytes stand at the front of the part.
     Whole { length: usize },

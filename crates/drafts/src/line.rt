@@ -2,14 +2,14 @@
 ghost use Rattle.std.specs.Prelude.{◌≤◌, ◌<◌, length};
 
 // A number, and where it ends in its line.
-#[derive(Drop)]
+#[derive(Clone, Copy)]
 pub struct Found {
     pub value: u32,
     pub after: usize,
 }
 
 // How many bytes were put down, and where they end in their line.
-#[derive(Drop)]
+#[derive(Clone, Copy)]
 pub struct Laid {
     pub length: usize,
     pub after: usize,

@@ -2,6 +2,9 @@
 // A line of standard input that begins with `R` has a draft, the room and the answer, as tests/vectors/README.md says, and the draft is
 // read. One that begins with `C` has a table's bytes behind the room, and steps and cells in the answer, and the draft is checked against
 // the table. The answer and both buffers are compared whole. Lines that do not hold are named, and the last line counts.
+
+#![tactic(auto)]
+
 ghost use Rattle.std.specs.Prelude.{◌+◌, ◌^◌, ◌≤◌, ◌<◌, length};
 
 mod line;
@@ -26,7 +29,7 @@ const NUMBER_BEFORE: u32 = 2779096485;
 const BYTE_BEFORE: u8 = 165;
 
 // What a line says of an answer, and where that ends.
-#[derive(Drop)]
+#[derive(Clone, Copy)]
 struct Expected {
     number: u32,
     place: u32,
@@ -85,7 +88,7 @@ fn wide(n: u32) -> u64 {
 }
 
 // Entities that were compared: whether they are as the line says, where their text ends, and where the line goes on.
-#[derive(Drop)]
+#[derive(Clone, Copy)]
 struct Compared {
     same: bool,
     text: u64,
@@ -191,7 +194,7 @@ fn least(a: usize, b: usize) -> usize
 }
 
 // What a line asks for: a draft's length, the room for it, a table's length, and where the answer begins.
-#[derive(Drop)]
+#[derive(Clone, Copy)]
 struct Task {
     length: usize,
     numbers: usize,
@@ -309,7 +312,7 @@ fn write_counts(passed: u64, failed: u64) {
 }
 
 // How many cases held, and how many did not.
-#[derive(Drop)]
+#[derive(Clone, Copy)]
 struct Tally {
     passed: u64,
     failed: u64,

@@ -2,7 +2,7 @@
 // round.
 
 // What the tokens so far leave open, and what is held of them.
-#[derive(Drop)]
+#[derive(Clone, Copy)]
 pub struct State {
     // 0 in regular mode, 1 there right behind `[`, 2 in a metacommand.
     pub mode: usize,
@@ -14,7 +14,7 @@ pub struct State {
 }
 
 // What a token comes to: 0 and the state behind it, or a refusal of 10 to 19 at its place.
-#[derive(Drop)]
+#[derive(Clone, Copy)]
 pub struct Step {
     pub number: usize,
     pub state: State,

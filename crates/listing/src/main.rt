@@ -1,5 +1,8 @@
 // The listing program (document 01, "Drafts to try"): reads a draft on standard input and writes a line for each entity, then a
 // line that says how reading ended.
+
+#![tactic(auto)]
+
 ghost use Rattle.std.specs.Prelude.{◌+◌, ◌*◌, ◌≤◌, length};
 
 use chars::limits;

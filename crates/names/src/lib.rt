@@ -1,5 +1,8 @@
 // An index of names by their bytes (specs/Index.antt): what the operations of a table and the names of a draft are found through, in a time
 // that does not grow with how many there are.
+
+#![tactic(auto)]
+
 ghost use Rattle.std.specs.Prelude.{◌≡◌, ℕ, ◌+◌, ◌<◌, ◌≤◌, length, take, drop};
 ghost use Rattle.chars.specs.Choice.{same as same_as};
 ghost use Rattle.names.specs.Marks.{few_of, first_of, last_of, stir, blocks, mark_of};
@@ -8,7 +11,7 @@ ghost use Rattle.names.specs.Index.{Indexed, key_of, position, entered};
 use tokens::number::four;
 
 // What a name is found by (specs/Marks.antt).
-#[derive(Drop)]
+#[derive(Clone, Copy)]
 pub struct Mark {
     pub first: u64,
     pub last: u64,

@@ -1,4 +1,7 @@
 // Names: what `?`, `@`, `=` and `:` do (document 01, "Cells and operations").
+
+#![tactic(auto)]
+
 ghost use Rattle.std.specs.Prelude.{◌≡◌, Bool, List, ℕ, ◌+◌, ◌*◌, ◌<◌, ◌≤◌, length, take, drop};
 ghost use Rattle.chars.specs.Limits.{limits};
 ghost use Rattle.names.specs.Index.{position, key_of};

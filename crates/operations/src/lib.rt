@@ -1,4 +1,7 @@
 // Operations: the items that one takes, and the kinds that it gives (document 01, "Cells and operations").
+
+#![tactic(auto)]
+
 ghost use Rattle.std.specs.Prelude.{◌≡◌, true, List, map, ℕ, ◌+◌, ◌*◌, ◌<◌, ◌≤◌, length, get_or, take, drop};
 ghost use Rattle.chars.specs.Limits.{limits};
 ghost use Rattle.table.specs.Table.{item as item_of, find as find_of};
@@ -15,7 +18,7 @@ use sight::{CELLS, Counts, Move, plain, with_seen};
 use table::{GIVES, TAKES, size};
 
 // What taking items does: it leaves so many cells in sight, or a rule refuses it.
-#[derive(Drop)]
+#[derive(Clone, Copy)]
 pub enum Left {
     Leaves(usize),
     Refuses(u32),

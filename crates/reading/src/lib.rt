@@ -1,4 +1,7 @@
 // From tokens to entities: Shastina Specification, section 5, and document 01, "From tokens to entities".
+
+#![tactic(auto)]
+
 ghost use Rattle.std.specs.Prelude.{◌≡◌, length};
 ghost use Rattle.chars.specs.Limits.{limits as base};
 ghost use Rattle.reading.specs.Reading.{reading as reading_of};
@@ -11,7 +14,7 @@ use runs::blank::past_blanks;
 
 // The answer of read and of check. A number that an answer has no use for is 0.
 #[repr(C)]
-#[derive(Drop)]
+#[derive(Clone, Copy)]
 pub struct Answer {
     // 0 for success, or the number of refusal.
     pub number: u64,

@@ -14,7 +14,7 @@ use structure::structure;
 use texts::{take, take_word};
 
 // What a round comes to. All are numbers of one width, as in state.rt.
-#[derive(Drop)]
+#[derive(Clone, Copy)]
 pub struct Round {
     // 0 where reading goes on, 1 where it is over.
     pub over: usize,

@@ -1,5 +1,8 @@
 // What stands at a place of a draft, told by its first byte, a straight way for each sort: words, strings, comments and `|;`. Eight bytes
 // are looked at at once where they can be. What these ways do not know, refusals among it, is left to `tokens`.
+
+#![tactic(auto)]
+
 ghost use Rattle.std.specs.Prelude.{◌≡◌, ◌+◌, ◌<◌, ◌≤◌, eqb, length, get_or};
 ghost use Rattle.runs.specs.Bytes.{begins_of, begins_at};
 ghost use Rattle.scan.specs.Found.{piece_of, Finds};
@@ -17,7 +20,7 @@ use word::word_end;
 
 // What stands at a place, taken apart: 0 simple, 1 quoted, 2 curly, 3 the last, 4 a refusal, 5 whitespace or a comment, 6 not known. A part
 // that it has not is 0.
-#[derive(Drop)]
+#[derive(Clone, Copy)]
 pub struct Piece {
     pub sort: u32,
     pub place: usize,
@@ -29,7 +32,7 @@ pub struct Piece {
 }
 
 // Where a token's own bytes end, and what stands there: 1 ends it, 2 opens a string, 0 is illegal or not US-ASCII. 3 says nothing.
-#[derive(Drop)]
+#[derive(Clone, Copy)]
 pub struct Ended {
     pub at: usize,
     pub how: u32,

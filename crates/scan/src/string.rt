@@ -10,7 +10,7 @@ use runs::eight::past_plain;
 use wide::{Reach, past_narrow, past_pairs, past_wide};
 
 // The byte after the one that closes a string, and how many clean bytes its data has. 0 for the byte says nothing.
-#[derive(Drop)]
+#[derive(Clone, Copy)]
 pub struct Data {
     pub after: usize,
     pub length: usize,

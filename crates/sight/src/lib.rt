@@ -1,4 +1,7 @@
 // Cells and groups: what literals, arrays and groups do (document 01, "Cells and operations").
+
+#![tactic(auto)]
+
 ghost use Rattle.std.specs.Prelude.{◌≡◌, List, ℕ, ◌+◌, ◌-◌, ◌<◌, ◌≤◌, get_or};
 ghost use Rattle.chars.specs.Limits.{limits};
 ghost use Rattle.rules.specs.Cells.{push as push_of, hide as hide_of, show as show_of};
@@ -10,7 +13,7 @@ use names::wide;
 pub mod row;
 
 // How many cells are hidden, how many in sight, how many groups are open, and how many names defined.
-#[derive(Drop)]
+#[derive(Clone, Copy)]
 pub struct Counts {
     pub base: usize,
     pub seen: usize,
@@ -19,7 +22,7 @@ pub struct Counts {
 }
 
 // What an entity does: it leads on, or a rule stops it.
-#[derive(Drop)]
+#[derive(Clone, Copy)]
 pub enum Move {
     Goes(Counts),
     Stops(u32),

@@ -1,4 +1,7 @@
 // Step: one token after another from an opened draft (document 01, "The calls").
+
+#![tactic(auto)]
+
 ghost use Rattle.std.specs.Prelude.{◌≡◌};
 ghost use Rattle.chars.specs.Limits.{limits};
 ghost use Rattle.tokens.specs.Step.{stepped, onward as onward_of, reached as reached_of};
@@ -9,7 +12,7 @@ use chars::limits;
 use tokens::{Token, token_at};
 
 // An opened draft: the lent bytes together with the place reached.
-#[derive(Drop)]
+#[derive(Clone, Copy)]
 pub struct Opened<'a> {
     pub draft: &'a [u8],
     pub place: usize,
@@ -17,7 +20,7 @@ pub struct Opened<'a> {
 
 // An answer in document 01's numbers, with the place reached. A number that an answer has no use for is 0.
 #[repr(C)]
-#[derive(Drop)]
+#[derive(Clone, Copy)]
 pub struct Answer {
     pub number: u64,
     pub place: u64,

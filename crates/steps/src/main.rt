@@ -1,5 +1,8 @@
 // Steps through the drafts of standard input, a draft a line, by an opened draft each time. It writes a line for each token: place, the
 // byte after, sort, lengths of prefix and clean data; and then `last P N`, the place of `|;` and the byte after it, or `refused N P`.
+
+#![tactic(auto)]
+
 ghost use Rattle.std.specs.Prelude.{◌≤◌, length};
 
 use libc::{STDIN_FILENO, STDOUT_FILENO};

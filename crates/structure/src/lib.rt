@@ -1,4 +1,7 @@
 // ( ) [ ] , % ; where no metacommand is open: a token alone, told by its byte.
+
+#![tactic(auto)]
+
 ghost use Rattle.std.specs.Prelude.{◌≡◌, true, false, not, ◌&&◌, List, [], ℕ, ◌<◌, ◌≤◌, eqb, get_or};
 ghost use Rattle.chars.specs.Limits.{limits as base};
 ghost use Rattle.entities.specs.Making.{handled};

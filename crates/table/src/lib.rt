@@ -1,5 +1,8 @@
 // The table of operations, judged from its bytes: document 01, "Cells and operations", and docs/LAYOUT.md. The names of its operations are
 // entered in an index on the way, so that each is compared with few others.
+
+#![tactic(auto)]
+
 ghost use Rattle.std.specs.Prelude.{◌≡◌, true, ◌+◌, ◌-◌, ◌<◌, ◌≤◌, ◌^◌, length, take, drop};
 ghost use Rattle.chars.specs.Limits.{limits};
 ghost use Rattle.names.specs.Index.{Indexed};

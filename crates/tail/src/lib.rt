@@ -1,4 +1,7 @@
 // Tail: whether only whitespace follows a place of a draft (Shastina Specification, section 5.8; document 01, "The calls" and "Order").
+
+#![tactic(auto)]
+
 ghost use Rattle.std.specs.Prelude.{◌≡◌, ◌≤◌, eqb, length};
 ghost use Rattle.chars.specs.Limits.{limits};
 ghost use Rattle.tokens.specs.Tail.{tail as tail_of};
@@ -9,7 +12,7 @@ use tokens::blank_end;
 
 // A refusal of 1 or 31, or whether the answer is yes, and if not the first place that is not whitespace.
 #[repr(C)]
-#[derive(Drop)]
+#[derive(Clone, Copy)]
 pub struct Answer {
     pub number: u64,
     pub yes: u64,

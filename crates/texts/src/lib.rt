@@ -1,4 +1,7 @@
 // Tokens with text: words and strings, and in a metacommand every token but % and ; (Shastina Specification, sections 5.1 and 5.4 to 5.7).
+
+#![tactic(auto)]
+
 ghost use Rattle.std.specs.Prelude.{◌≡◌, true, List, [], ◌∷◌, ℕ, ◌+◌, ◌-◌, ◌/◌, ◌<◌, ◌≤◌, ◌^◌, eqb, get_or};
 ghost use Rattle.std.specs.Int.Bits.{bit_and};
 ghost use Rattle.chars.specs.Limits.{limits as base};

@@ -1,4 +1,7 @@
 // From characters to tokens: Shastina Specification, section 3, and document 01, "From characters to tokens".
+
+#![tactic(auto)]
+
 ghost use Rattle.std.specs.Prelude.{◌≡◌, false, ◌+◌, ◌-◌, ◌<◌, ◌≤◌, length, get_or};
 ghost use Rattle.chars.specs.Limits.{limits};
 ghost use Rattle.chars.specs.Stream.{stream_at};
@@ -17,7 +20,7 @@ use space::{blanks, comment, skip};
 use string_data::{closes, level_after, odd_after};
 
 // What the characters from a place of a draft on come to first. A place is a token's first byte.
-#[derive(Drop)]
+#[derive(Clone, Copy)]
 pub enum Token {
     // A simple token: the byte after it, and how many bytes it has.
     Simple {

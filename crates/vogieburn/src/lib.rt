@@ -1,4 +1,7 @@
 // The library for C (include/vogieburn.h): the calls under the names that C knows, and nothing else.
+
+#![tactic(auto)]
+
 ghost use Rattle.std.specs.Prelude.{◌≡◌};
 ghost use Rattle.chars.specs.Limits.{limits};
 ghost use Rattle.reading.specs.Reading.{reading as reading_of};

@@ -1,18 +1,21 @@
 // Characters above US-ASCII: two to four bytes by the grammar of RFC 3629, section 4, or a surrogate pair, which is six and becomes four.
+
+#![tactic(auto)]
+
 ghost use Rattle.std.specs.Prelude.{◌≡◌, true, [], ◌∷◌, ◌+◌, ◌<◌, ◌≤◌, length, get_or};
 ghost use Rattle.chars.specs.Choice.{within as within_by};
 ghost use Rattle.chars.specs.Rfc3629.{utf8_2, utf8_3, utf8_4};
 ghost use Rattle.wide.specs.Wide.{Wider, Wides};
 
 // A character's bytes, and how many of them cleaning takes away. 0 bytes say nothing.
-#[derive(Drop)]
+#[derive(Clone, Copy)]
 pub struct Bytes {
     pub bytes: usize,
     pub less: usize,
 }
 
 // Where characters above US-ASCII end, and how many of their bytes cleaning takes away.
-#[derive(Drop)]
+#[derive(Clone, Copy)]
 pub struct Reach {
     pub after: usize,
     pub less: usize,
