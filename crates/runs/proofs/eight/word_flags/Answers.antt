@@ -10,8 +10,7 @@ use Rattle.tokens.specs.Sorts.{visible, exclusive, inclusive}
 use Rattle.tokens.proofs.Table.{implied}
 use Rattle.runs.specs.Bytes.{ends_of, goes_on}
 use Rattle.runs.proofs.Bytewise.{Made, itself, repeated, seven, raised, masked, made_fits, made_flags, made_and, made_or, made_xor, made_sum}
-use Rattle.runs.proofs.eight.word_flags.Statement.{statement}
-use Rattle.runs.proofs.eight.word_flags.Tie as tie
+use Rattle.runs.proofs.eight.word_flags.Goals as goal
 
 -- what is made of a byte
 abbrev made : ℕ → ℕ
@@ -34,22 +33,22 @@ module _ (w : ℕ) (h : w < 2 ^ 64) where
   high : Made w (λ b. bit_and (bit_and b 0x7F + 0x02) 0x9D + 0x63) (bit_and (bit_and w 0x7F7F7F7F7F7F7F7F + 0x0202020202020202) 0x9D9D9D9D9D9D9D9D + 0x6363636363636363)
   high = masked w h 0x02 0x9D 0x63 (omega arith) (omega arith)
 
-add_low : tie.Need-overflow-add-low
-add_low c = record { fits = made_fits (low c.args.w c.ranges.w.fits) }
+pub overflow_add-low : goal.overflow_add-low
+overflow_add-low c = record { fits = made_fits (low c.args.w c.ranges.w.fits) }
 
-add-next : tie.Need-overflow-add-next
-add-next c = record { fits = made_fits (raised c.args.w c.ranges.w.fits 0x04 (omega arith)) }
+pub overflow_add-next : goal.overflow_add-next
+overflow_add-next c = record { fits = made_fits (raised c.args.w c.ranges.w.fits 0x04 (omega arith)) }
 
-add-next-2 : tie.Need-overflow-add-next-2
-add-next-2 c = record { fits = made_fits (next c.args.w c.ranges.w.fits) }
+pub overflow_add-next-2 : goal.overflow_add-next-2
+overflow_add-next-2 c = record { fits = made_fits (next c.args.w c.ranges.w.fits) }
 
-add-high : tie.Need-overflow-add-high
-add-high c = record { fits = made_fits (raised c.args.w c.ranges.w.fits 0x02 (omega arith)) }
+pub overflow_add-high : goal.overflow_add-high
+overflow_add-high c = record { fits = made_fits (raised c.args.w c.ranges.w.fits 0x02 (omega arith)) }
 
-add-high-2 : tie.Need-overflow-add-high-2
-add-high-2 c = record { fits = made_fits (high c.args.w c.ranges.w.fits) }
+pub overflow_add-high-2 : goal.overflow_add-high-2
+overflow_add-high-2 c = record { fits = made_fits (high c.args.w c.ranges.w.fits) }
 
-returns : tie.Need-returns
+pub returns : goal.returns
 unfolding goes_on ends_of visible exclusive inclusive
 returns c =
     let w = c.args.w in
@@ -57,6 +56,3 @@ returns c =
     let top = repeated w 0x80 (omega arith) in
     made_flags (made_and (made_or (made_or (itself w h) (high w h)) (made_xor (made_and (low w h) (next w h)) top)) top) goes_on
     (λ b l e. implied (λ k. eqb (made k) 0) goes_on 256 refl b l (eq-eqb (made b) 0 e))
-
-pub word_flags_spec : {M : Type 1} → statement M
-word_flags_spec = tie.close (tie.spec add_low add-next add-next-2 add-high add-high-2 returns)

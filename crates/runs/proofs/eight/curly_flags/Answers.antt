@@ -11,8 +11,7 @@ use Rattle.tokens.specs.Runs.{bytes_of}
 use Rattle.tokens.proofs.Table.{implied}
 use Rattle.runs.specs.Bytes.{plain}
 use Rattle.runs.proofs.Bytewise.{Made, itself, always, raised, turned, made_fits, made_flags, made_and, made_or, made_xor}
-use Rattle.runs.proofs.eight.curly_flags.Statement.{statement}
-use Rattle.runs.proofs.eight.curly_flags.Tie as tie
+use Rattle.runs.proofs.eight.curly_flags.Goals as goal
 
 -- what is made of a byte
 abbrev made : ℕ → ℕ
@@ -40,20 +39,17 @@ module _ (w : ℕ) (h : w < 2 ^ 64) where
       let escape = turned w h 0x5C 0x7F (omega arith) (omega arith) in
       made_and (made_or (made_or (itself w h) high) (made_xor (made_and low escape) top)) top
 
-add_low : tie.Need-overflow-add-low
-add_low c = record { fits = made_fits (raised c.args.w c.ranges.w.fits 0x60 (omega arith)) }
+pub overflow_add-low : goal.overflow_add-low
+overflow_add-low c = record { fits = made_fits (raised c.args.w c.ranges.w.fits 0x60 (omega arith)) }
 
-add-high : tie.Need-overflow-add-high
-add-high c = record { fits = made_fits (raised c.args.w c.ranges.w.fits 0x05 (omega arith)) }
+pub overflow_add-high : goal.overflow_add-high
+overflow_add-high c = record { fits = made_fits (raised c.args.w c.ranges.w.fits 0x05 (omega arith)) }
 
-add-escape : tie.Need-overflow-add-escape
-add-escape c = record { fits = made_fits (turned c.args.w c.ranges.w.fits 0x5C 0x7F (omega arith) (omega arith)) }
+pub overflow_add-escape : goal.overflow_add-escape
+overflow_add-escape c = record { fits = made_fits (turned c.args.w c.ranges.w.fits 0x5C 0x7F (omega arith) (omega arith)) }
 
-returns : tie.Need-returns
+pub returns : goal.returns
 unfolding plain
 returns c =
     made_flags (flags c.args.w c.ranges.w.fits) (plain true)
     (λ b l e. implied (λ k. eqb (made k) 0) (plain true) 256 refl b l (eq-eqb (made b) 0 e))
-
-pub curly_flags_spec : {M : Type 1} → statement M
-curly_flags_spec = tie.close (tie.spec add_low add-high add-escape returns)

@@ -9,8 +9,7 @@ use Rattle.tokens.specs.Runs.{bytes_of}
 use Rattle.tokens.proofs.Table.{implied}
 use Rattle.runs.specs.Bytes.{remark}
 use Rattle.runs.proofs.Bytewise.{Made, itself, always, raised, made_fits, made_flags, made_and, made_or, made_xor}
-use Rattle.runs.proofs.eight.remark_flags.Statement.{statement}
-use Rattle.runs.proofs.eight.remark_flags.Tie as tie
+use Rattle.runs.proofs.eight.remark_flags.Goals as goal
 
 -- what is made of a byte
 abbrev made : ℕ → ℕ
@@ -25,14 +24,11 @@ module _ (w : ℕ) (h : w < 2 ^ 64) where
       let high = always w 0x80 (omega arith) in
       made_and (made_or (itself w h) (made_xor (raised w h 0x60 (omega arith)) high)) high
 
-add_low : tie.Need-overflow-add-low
-add_low c = record { fits = made_fits (raised c.args.w c.ranges.w.fits 0x60 (omega arith)) }
+pub overflow_add-low : goal.overflow_add-low
+overflow_add-low c = record { fits = made_fits (raised c.args.w c.ranges.w.fits 0x60 (omega arith)) }
 
-returns : tie.Need-returns
+pub returns : goal.returns
 unfolding remark
 returns c =
     made_flags (flags c.args.w c.ranges.w.fits) remark
     (λ b l e. implied (λ k. eqb (made k) 0) remark 256 refl b l (eq-eqb (made b) 0 e))
-
-pub remark_flags_spec : {M : Type 1} → statement M
-remark_flags_spec = tie.close (tie.spec add_low returns)

@@ -10,8 +10,7 @@ use Rattle.tokens.specs.Runs.{bytes_of}
 use Rattle.tokens.proofs.Table.{implied}
 use Rattle.runs.specs.Bytes.{settled}
 use Rattle.runs.proofs.Bytewise.{Made, itself, always, turned, made_fits, made_flags, made_and, made_or, made_xor}
-use Rattle.runs.proofs.settled.change_flags.Statement.{statement}
-use Rattle.runs.proofs.settled.change_flags.Tie as tie
+use Rattle.runs.proofs.settled.change_flags.Goals as goal
 
 -- what is made of a byte
 abbrev made : ℕ → ℕ
@@ -36,17 +35,14 @@ module _ (w : ℕ) (h : w < 2 ^ 64) where
       let pair = turned w h 0x6D 0x7F (omega arith) (omega arith) in
       made_and (made_xor (made_and (made_or line (itself w h)) (made_or pair (made_xor (itself w h) top))) top) top
 
-add-line : tie.Need-overflow-add-line
-add-line c = record { fits = made_fits (turned c.args.w c.ranges.w.fits 0x0D 0x7F (omega arith) (omega arith)) }
+pub overflow_add-line : goal.overflow_add-line
+overflow_add-line c = record { fits = made_fits (turned c.args.w c.ranges.w.fits 0x0D 0x7F (omega arith) (omega arith)) }
 
-add-pair : tie.Need-overflow-add-pair
-add-pair c = record { fits = made_fits (turned c.args.w c.ranges.w.fits 0x6D 0x7F (omega arith) (omega arith)) }
+pub overflow_add-pair : goal.overflow_add-pair
+overflow_add-pair c = record { fits = made_fits (turned c.args.w c.ranges.w.fits 0x6D 0x7F (omega arith) (omega arith)) }
 
-returns : tie.Need-returns
+pub returns : goal.returns
 unfolding settled
 returns c =
     made_flags (flags c.args.w c.ranges.w.fits) settled
     (λ b l e. implied (λ k. eqb (made k) 0) settled 256 refl b l (eq-eqb (made b) 0 e))
-
-pub change_flags_spec : {M : Type 1} → statement M
-change_flags_spec = tie.close (tie.spec add-line add-pair returns)

@@ -9,29 +9,25 @@ use borrow.Author.Rules.{rules}
 use Rattle.chars.specs.Choice.{among}
 use Rattle.tokens.specs.Sorts.{white}
 use Rattle.runs.proofs.Bytes.{agree, not_among}
-use Rattle.runs.proofs.blank.white.Statement.{statement}
-use Rattle.runs.proofs.blank.white.Tie as tie
+use Rattle.runs.proofs.blank.white.Goals as goal
 
-returns : tie.Need-returns
+pub returns-then-b-eq32 : goal.returns-then-b-eq32
 unfolding white
-returns c = ap white (sym c.if1.true)
+returns-then-b-eq32 c = ap white (sym c.if-b-eq32.true)
 
-returns-2 : tie.Need-returns-2
+pub returns-then-b-eq10 : goal.returns-then-b-eq10
 unfolding white
-returns-2 c = ap white (sym c.if2.true)
+returns-then-b-eq10 c = ap white (sym c.if-b-eq10.true)
 
-returns-3 : tie.Need-returns-3
+pub returns : goal.returns
 unfolding white
-returns-3 c =
-    let b = c.before.before.args.b in
+returns c =
+    let b = c.args.b in
     let told : List ℕ = 0x20 ∷ 0x0A ∷ [] in
     agree (λ k. eqb k 0x09) white (λ k. not (among k told)) refl b (search rules) (not_among told b (
-      c.before.if1.false,
+      c.if-b-eq32.false,
       (
-        c.if2.false,
+        c.if-b-eq10.false,
         tt,
       ),
     ))
-
-pub white_spec : {M : Type 1} → statement M
-white_spec = tie.close (tie.spec returns returns-2 returns-3)

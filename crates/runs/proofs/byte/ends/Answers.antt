@@ -1,0 +1,43 @@
+-- `runs::byte::ends` meets its contract: SP and LF are computed, and the other tests are those of the definition, of which one goes
+-- before: what goes on with a token is 3 by itself. Assumes nothing.
+use mathlib.Core.Path.{sym, ◌∙◌, ap}
+use mathlib.Core.Bool.{true, false, false≢true}
+use borrow.Author.Tests.{eqb-true}
+use Rattle.chars.proofs.Cases.{either}
+use Rattle.tokens.specs.Sorts.{visible, exclusive, inclusive}
+use Rattle.runs.specs.Bytes.{ends_of, goes_on}
+use Rattle.runs.proofs.byte.ends.Goals as goal
+
+pub returns-then-b-eq32 : goal.returns-then-b-eq32
+unfolding ends_of exclusive
+returns-then-b-eq32 c = ap ends_of (sym c.if-b-eq32.true)
+
+pub returns-then-b-eq10 : goal.returns-then-b-eq10
+unfolding ends_of exclusive
+returns-then-b-eq10 c = ap ends_of (sym c.if-b-eq10.true)
+
+pub returns-then-goes_on : goal.returns-then-goes_on
+unfolding goes_on
+returns-then-goes_on c =
+    sym (eqb-true _ _ (sym c.goes_on.ensures ∙ c.if-goes_on.true))
+
+pub returns-then-exclusive : goal.returns-then-exclusive
+unfolding ends_of
+returns-then-exclusive c = simp (sym c.exclusive.ensures ∙ c.if-exclusive.true)
+
+pub returns-then-inclusive : goal.returns-then-inclusive
+unfolding ends_of
+returns-then-inclusive c =
+    let out = sym c.exclusive.ensures ∙ c.if-exclusive.false in
+    simp (out, sym c.inclusive.ensures ∙ c.if-inclusive.true)
+
+pub returns : goal.returns
+unfolding ends_of goes_on
+returns c =
+    let b = c.args.b in
+    let stops = sym c.goes_on.ensures ∙ c.if-goes_on.false in
+    let out = sym c.exclusive.ensures ∙ c.if-exclusive.false in
+    let no-string = sym c.inclusive.ensures ∙ c.if-inclusive.false in
+    either (visible b)
+    (λ seen. absurd (false≢true (sym stops ∙ simp (out, no-string, seen))))
+    (λ unseen. simp (out, no-string, unseen))
