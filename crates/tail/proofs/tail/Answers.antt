@@ -4,7 +4,6 @@ use mathlib.Core.Path.{◌≡◌, sym, ◌∙◌, ap}
 use mathlib.Core.List.{List}
 use Prim.Native.Nat.{ℕ, ◌≤◌}
 use native.Mathlib.Omega.{arith}
-use borrow.Author.Rules.{rules}
 use borrow.Author.Tests.{eqb-true, eqb-false, lt-ltb, le-ltb}
 use lib.ListN.{length}
 use Rattle.chars.specs.Limits.{limits}
@@ -14,8 +13,7 @@ use Rattle.tokens.specs.Tail.{blank, tail}
 use Rattle.tokens.proofs.Skipping.{blanks_twice}
 use Rattle.tail.specs.Answer.{answer_of}
 use Rattle.tail.proofs.Blanks.{blank_past, blank_end, blank_no}
-use Rattle.tail.proofs.tail.Statement.{statement}
-use Rattle.tail.proofs.tail.Tie as tie
+use Rattle.tail.proofs.tail.Goals as goal
 
 -- a draft within the limit and a place within the draft: what is behind the blanks decides
 module _ (draft : List ℕ) (place end : ℕ) (few : length draft ≤ 16384) (in-draft : place ≤ length draft)
@@ -29,47 +27,41 @@ module _ (draft : List ℕ) (place end : ℕ) (few : length draft ≤ 16384) (in
   stays : stream_at draft end ≡ past_blanks (stream_at draft end)
   stays = at_end ∙ (sym (blanks_twice (stream_at draft place)) ∙ ap past_blanks (sym at_end))
 
-returns : tie.Need-returns
+pub returns-then-draft-gt-DRAFT : goal.returns-then-draft-gt-DRAFT
 unfolding tail answer_of
-returns c = rw (lt-ltb 16384 _ c.if1.true)
+returns-then-draft-gt-DRAFT c = rw (lt-ltb 16384 _ c.if-draft-gt-DRAFT.true)
 
-returns-2 : tie.Need-returns-2
+pub returns-then-draft-place : goal.returns-then-draft-place
 unfolding tail answer_of
-returns-2 c = rw (le-ltb 16384 _ c.before.if1.false, lt-ltb _ _ c.if2.true)
+returns-then-draft-place c = rw (le-ltb 16384 _ c.if-draft-gt-DRAFT.false, lt-ltb _ _ c.if-draft-place.true)
 
-blank-end-requires : tie.Need-blank-end-requires
-blank-end-requires c κs = search rules
+pub at_end-requires : goal.at_end-requires
+at_end-requires c = c.blank_end-end.ensures.1
 
-at-end-requires : tie.Need-at-end-requires
-at-end-requires c κs = c.blank_end.ensures.1
-
-returns-3 : tie.Need-returns-3
+pub returns-then-at_end : goal.returns-then-at_end
 unfolding answer_of
-returns-3 c =
-    let draft = c.before.before.before.before.before.before.args.draft.now in
-    let place = c.before.before.before.before.before.before.args.place in
-    let end = c.before.before.blank_end.result in
-    let there = eqb-true end (length draft) (sym c.before.at_end.ensures ∙ c.if3.true) in
+returns-then-at_end c =
+    let draft = c.args.draft.now in
+    let place = c.args.place in
+    let end = c.blank_end-end.result in
+    let there = eqb-true end (length draft) (sym c.at_end.ensures ∙ c.if-at_end.true) in
     rw (
-      decided draft place end c.before.before.before.before.if1.false c.before.before.before.if2.false
-          c.before.before.blank_end.ensures.0,
+      decided draft place end c.if-draft-gt-DRAFT.false c.if-draft-place.false
+          c.blank_end-end.ensures.0,
       blank_end draft end (omega (arith, there)),
     )
 
-returns-4 : tie.Need-returns-4
+pub returns : goal.returns
 unfolding answer_of
-returns-4 c =
-    let draft = c.before.before.before.before.before.before.args.draft.now in
-    let place = c.before.before.before.before.before.before.args.place in
-    let end = c.before.before.blank_end.result in
-    let behind = c.before.before.blank_end.ensures in
-    let few = c.before.before.before.before.if1.false in
-    let in-draft = c.before.before.before.if2.false in
-    let elsewhere = eqb-false end (length draft) (sym c.before.at_end.ensures ∙ c.if3.false) in
+returns c =
+    let draft = c.args.draft.now in
+    let place = c.args.place in
+    let end = c.blank_end-end.result in
+    let behind = c.blank_end-end.ensures in
+    let few = c.if-draft-gt-DRAFT.false in
+    let in-draft = c.if-draft-place.false in
+    let elsewhere = eqb-false end (length draft) (sym c.at_end.ensures ∙ c.if-at_end.false) in
     rw (
       decided draft place end few in-draft behind.0,
       blank_no draft end (omega (arith, behind.1, elsewhere)) (stays draft place end few in-draft behind.0),
     )
-
-pub tail_spec : {M : Type 1} → statement M
-tail_spec = tie.close (tie.spec returns returns-2 blank-end-requires at-end-requires returns-3 returns-4)
