@@ -1,6 +1,6 @@
 -- The open groups as a list: what is stored past them changes nothing, what is stored right behind them is one more, and the innermost is
 -- the last of the array's open numbers.
-use mathlib.Core.Path.{◌≡◌, refl, ap}
+use mathlib.Core.Path.{◌≡◌, refl, sym, ap, subst}
 use mathlib.Core.List.{List, [], ◌∷◌}
 use Prim.Native.Nat.{ℕ, zero, suc, ◌+◌, ◌-◌, ◌<◌, ◌≤◌}
 use native.Mathlib.Omega.{arith}
@@ -45,7 +45,8 @@ unfolding open_groups
 renumbered a zero v h l = absurd (h refl)
 renumbered a (suc k) v h l =
     let less : suc k - 1 ≡ k = omega arith in
-    rw (less, get_or-set_same a k v 0 (omega arith), past a k v k (omega arith))
+    subst (λ j. open_groups (set a j v) (suc k) ≡ v ∷ open_groups a j) (sym less)
+    (rw (get_or-set_same a k v 0 (omega arith), past a k v k (omega arith)))
 
 -- numbers at most `m` are at most anything above it
 pub higher : (groups : List ℕ) (m n : ℕ) → m ≤ n → below groups m → below groups n
