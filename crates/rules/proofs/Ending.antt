@@ -123,8 +123,8 @@ module _ (L : Limits) {C : Type 0} (cell : Cell C) (counts : (c : C) → Countin
 
   given_ruled : (step : ℕ) (s : State C) (kinds : List ℕ) (t : Taken C) → Taking t → Ruled (given L cell step s kinds t)
   unfolding given ruled_did ruled_taken
-  given_ruled step s kinds (refuses rule) r = r
-  given_ruled step s kinds (leaves cells) r = not_too_many_ruled _
+  given_ruled step s _ (refuses rule) r = r
+  given_ruled step s _ (leaves cells) r = not_too_many_ruled _
 
   operate_ruled : (step : ℕ) (s : State C) (o : Option Operation) → Ruled (operate L cell step s o)
   unfolding operate ruled_did

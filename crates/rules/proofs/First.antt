@@ -43,6 +43,7 @@ every_map P Q f (x ∷ xs) ps = (f x ps.0, every_map P Q f xs ps.1)
 
 never : {A : Type 0} (P : A → Type 0) (xs : List A) → Every (λ x. P x → ⊥) xs → Some P xs → ⊥
 unfolding Every Some
+never P [] nots there = elim there [ ]
 never P (x ∷ xs) nots (inl p) = nots.0 p
 never P (x ∷ xs) nots (inr s) = never P xs nots.1 s
 
@@ -94,6 +95,7 @@ module _ {A : Type 0} (f : A → List ℕ) (name : List ℕ) where
   -- where no two have the same name, it is the only one
   pub only : (x : A) (xs : List A) → Apart f xs → f x ≡ name → In x xs → Every (λ y. f y ≡ name → y ≡ x) xs
   unfolding Apart Every
+  only x [] a e there = elim there [ ]
   only x (y ∷ xs) a e top =
       ((λ n. refl), every_map (λ z. f z ≡ f x → ⊥) (λ z. f z ≡ name → z ≡ x) (λ z differs n. absurd (differs (n ∙ sym e))) xs a.0)
   only x (y ∷ xs) a e (under i) =

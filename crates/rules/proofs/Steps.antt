@@ -28,6 +28,7 @@ use Rattle.rules.proofs.Agreeing.{assign_well, operation_well, Variable}
 
 some_map : {A : Type 0} (P Q : A → Type 0) → ((x : A) → P x → Q x) → (xs : List A) → Some P xs → Some Q xs
 unfolding Some
+some_map P Q f [] there = elim there [ ]
 some_map P Q f (x ∷ xs) (inl p) = inl (f x p)
 some_map P Q f (x ∷ xs) (inr s) = inr (some_map P Q f xs s)
 
@@ -110,6 +111,7 @@ module _ (L : Limits) (given : Outside) (os : List Operation) (step : ℕ) (s : 
       (name : List ℕ) (ns : List (Name Value)) (n : Name Value) → Every (λ m. m.name ≡ name → m ≡ n) ns
       → Some (Variable name s.sight) ns → Variable name s.sight n
   unfolding Some Every
+  the_variable name [] n one there = elim there [ ]
   the_variable name (m ∷ ns) n one (inl v) = rw (one.0 v.0) at v
   the_variable name (m ∷ ns) n one (inr v) = the_variable name ns n one.1 v
 

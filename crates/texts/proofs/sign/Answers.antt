@@ -6,8 +6,7 @@ use native.Mathlib.Omega.{arith}
 use borrow.Author.Tests.{le-leb, lt-leb}
 use Rattle.chars.specs.Choice.{within}
 use Rattle.entities.specs.Judging.{cut_of, cut_from, cut_length}
-use Rattle.texts.proofs.sign.Statement.{statement}
-use Rattle.texts.proofs.sign.Tie as tie
+use Rattle.texts.proofs.sign.Goals as goal
 
 all_kept :
     (kind : ℕ) → within 12 15 kind ≡ false → (place prefix : ℕ)
@@ -21,23 +20,20 @@ one_left :
 unfolding cut_of cut_from cut_length
 one_left kind t place prefix = (rw t, rw t)
 
-returns : tie.Need-returns
-returns c =
-    let k = c.before.args.kind in
-    (all_kept k (rw (lt-leb 12 k c.if1.true)), omega arith)
+pub returns-then-kind-lt12 : goal.returns-then-kind-lt12
+returns-then-kind-lt12 c =
+    let k = c.args.kind in
+    (all_kept k (rw (lt-leb 12 k c.if-kind-lt12.true)), omega arith)
 
-returns-2 : tie.Need-returns-2
-returns-2 c =
-    let k = c.before.before.args.kind in
-    let up = c.before.if1.false in
-    let down = c.if2.true in
+pub returns-then-kind-lt16 : goal.returns-then-kind-lt16
+returns-then-kind-lt16 c =
+    let k = c.args.kind in
+    let up = c.if-kind-lt12.false in
+    let down = c.if-kind-lt16.true in
     (one_left k (rw (le-leb 12 k (omega arith), le-leb k 15 (omega arith))), omega arith)
 
-returns-3 : tie.Need-returns-3
-returns-3 c =
-    let k = c.before.before.args.kind in
-    let up = c.if2.false in
+pub returns : goal.returns
+returns c =
+    let k = c.args.kind in
+    let up = c.if-kind-lt16.false in
     (all_kept k (rw (le-leb 12 k (omega arith), lt-leb k 15 (omega arith))), omega arith)
-
-pub sign_spec : {M : Type 1} → statement M
-sign_spec = tie.close (tie.spec returns returns-2 returns-3)
