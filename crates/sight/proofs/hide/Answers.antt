@@ -4,32 +4,15 @@ use mathlib.Core.Path.{refl, ◌∙◌}
 use Prim.Native.Nat.{◌+◌, ◌<◌}
 use native.Mathlib.Omega.{arith}
 use lib.ListN.{length, length-set}
-use borrow.Author.Rules.{rules}
 use Rattle.rules.specs.Cells.{hide}
 use Rattle.sight.specs.Arrays.{sight_of, state_of, meant, ready}
 use Rattle.sight.proofs.Sight.{hidden_begun, stacked_begun, still_standing}
-use Rattle.sight.proofs.hide.Statement.{statement}
-use Rattle.sight.proofs.hide.Tie as tie
+use Rattle.sight.proofs.hide.Goals as goal
 
-cast-bases : tie.Need-overflow-cast-bases
-cast-bases c = search rules
-
-mul-bases : tie.Need-overflow-mul-bases
-mul-bases c = search rules
-
-element-write-bases : tie.Need-element-write-bases
-element-write-bases c = search rules
-
-add-t5 : tie.Need-overflow-add-t5
-add-t5 c = search rules
-
-add-t8 : tie.Need-overflow-add-t8
-add-t8 c = search rules
-
-returns : tie.Need-returns
+pub returns : goal.returns
 unfolding hide state_of sight_of meant ready
 returns c text cells index whats st g =
-    let a = c.before.before.args in
+    let a = c.args in
     let s = a.s in
     let l = a.bases.now in
     let deep : s.depth < length l = omega (arith, g.bases_room) in
@@ -44,6 +27,3 @@ returns c text cells index whats st g =
         },
       );
     }
-
-pub hide_spec : {M : Type 1} → statement M
-hide_spec = tie.close (tie.spec cast-bases mul-bases element-write-bases add-t5 add-t8 returns)
