@@ -27,12 +27,12 @@ Ordered from to (e ∷ es) = (from ≤ e.place) × (e.place < to) × Ordered e.p
 
 -- entities at one place, and then others that begin behind it
 in_order :
-    (from to place after : ℕ) (es more : List Entity) → All place es → from ≤ place → place < to → place ≤ after
+    (place from to after : ℕ) (es more : List Entity) → All place es → from ≤ place → place < to → place ≤ after
     → Ordered after to more → Ordered from to (es ++ more)
-in_order from to place after es [] nothing g l b o = tt
-in_order from to place after es (e ∷ more) nothing g l b o = (omega arith, o.1, o.2)
-in_order from to place after es more (also e es' is a) g l b o =
-    (omega arith, omega arith, in_order e.place to place after es' more a (omega arith) l b o)
+in_order place from to after es [] nothing g l b o = tt
+in_order place from to after es (e ∷ more) nothing g l b o = (omega arith, o.1, o.2)
+in_order place from to after es more (also e es' is a) g l b o =
+    (omega arith, omega arith, in_order place e.place to after es' more a (omega arith) l b o)
 
 module _ (draft : List ℕ) where
   -- what is read from `from` on
@@ -51,12 +51,12 @@ module _ (draft : List ℕ) where
   taken_along from place after (holds es left r) rest a g l m f =
       let behind = f left r in
       record {
-        ordered = in_order from (length draft) place after es _ a g (omega arith) (omega arith) behind.ordered;
+        ordered = in_order place from (length draft) after es _ a g (omega arith) (omega arith) behind.ordered;
         stands = λ z. let far = behind.stands z in (omega arith, far.1);
         comes_first =
             λ z.
             let far = behind.stands z in
-            in_order from _ place after es _ a g (omega arith) (omega arith) (behind.comes_first z);
+            in_order place from _ after es _ a g (omega arith) (omega arith) (behind.comes_first z);
       }
 
   module _ (L : Limits) (some-token : 1 ≤ L.token) where

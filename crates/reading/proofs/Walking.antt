@@ -360,7 +360,7 @@ module _ (draft list text groups : List ℕ) (s : State) (at : ℕ) (f : Piece) 
           much = omega (arith, a.4);
           comes = e ∙ ap (λ j. refusal j f.place) (sym a.0);
         }
-    halted (holds es room r) n t e a = absurd a
+    halted (holds _ room r) n t e a = absurd a
 
     -- a token that is held
     moved :

@@ -6,7 +6,6 @@ use mathlib.Core.Option.{some}
 use Prim.Native.Nat.{ℕ, suc, ◌+◌, ◌-◌, ◌%◌, ◌<◌, ◌≤◌}
 use native.Mathlib.Omega.{arith}
 use lib.ListN.{get_or}
-use borrow.Author.Rules.{rules}
 use borrow.Author.Tests.{le-leb, lt-leb, eq-eqb, ne_eqb}
 use Rattle.chars.specs.Limits.{limits}
 use Rattle.names.specs.Index.{key_of, position}
@@ -18,8 +17,7 @@ use Rattle.sight.specs.declared.Move.{Move}
 use Rattle.sight.specs.declared.Move.TheVariants.{Goes, Stops}
 use Rattle.sight.proofs.Sight.{top, plain_kind, in_sight_now}
 use Rattle.naming.proofs.Names.{lookup_none, lookup_found, changed_found}
-use Rattle.naming.proofs.store.Statement.{statement}
-use Rattle.naming.proofs.store.Tie as tie
+use Rattle.naming.proofs.store.Goals as goal
 
 -- the name that is found, and the top cell
 module _
@@ -67,78 +65,33 @@ module _
         rw (assigned, lt-leb 16 what h, plain_kind cell, kept, eq-eqb (plain_of cell) what e, same_names)
         (in_sight_now text cells bases index whats s g st cells (s.seen - 1) few refl refl)
 
-returns : tie.Need-returns
+pub returns-then-found-eq0 : goal.returns-then-found-eq0
 unfolding assign store state_of meant ready
-returns c text bases index name st g e =
-    let a = c.before.args in
-    let missing : position (key_of text index) name a.s.names ≡ 0 = sym e ∙ c.if1.true in
+returns-then-found-eq0 c text bases index name st g e =
+    let a = c.args in
+    let missing : position (key_of text index) name a.s.names ≡ 0 = sym e ∙ c.if-found-eq0.true in
     let above = top a.cells.now a.s.base a.s.seen (omega arith) in
     record { same = rw (above, lookup_none text index a.whats.now name a.s.names missing); on = tt }
 
-sub-what : tie.Need-overflow-sub-what
-sub-what c = search rules
-
-mul-what : tie.Need-overflow-mul-what
-mul-what c = search rules
-
-element-copy-out-what : tie.Need-element-copy-out-what
-element-copy-out-what c = search rules
-
-returns-2 : tie.Need-returns-2
-returns-2 c text bases index name st g e =
-    let a = c.before.before.before.args in
+pub returns-then-what-ge16 : goal.returns-then-what-ge16
+returns-then-what-ge16 c text bases index name st g e =
+    let a = c.args in
     let j = a.found - 1 in
     let there : position (key_of text index) name a.s.names ≡ suc j = omega (arith, e) in
-    constant text a.cells.now bases index a.whats.now name a.s (omega arith) j there (omega (arith, c.if2.true))
+    constant text a.cells.now bases index a.whats.now name a.s (omega arith) j there (omega (arith, c.if-what-ge16.true))
 
-sub-left : tie.Need-overflow-sub-left
-sub-left c = search rules
-
-add-top : tie.Need-overflow-add-top
-add-top c = search rules
-
-mul-plain : tie.Need-overflow-mul-plain
-mul-plain c = search rules
-
-element-copy-out-plain : tie.Need-element-copy-out-plain
-element-copy-out-plain c = search rules
-
-plain-requires : tie.Need-plain-requires
-plain-requires c κs = search rules
-
-returns-3 : tie.Need-returns-3
-returns-3 c text bases index name st g e =
-    let a = c.before.before.before.before.before.before.before.before.args in
+pub returns-then-plain-what : goal.returns-then-plain-what
+returns-then-plain-what c text bases index name st g e =
+    let a = c.args in
     let j = a.found - 1 in
     let there : position (key_of text index) name a.s.names ≡ suc j = omega (arith, e) in
     other_kind text a.cells.now bases index a.whats.now name a.s (omega arith) j there (omega arith)
-    (λ q. omega (arith, q, c.if3.true, c.before.plain.ensures))
+    (λ q. omega (arith, q, c.if-plain-what.true, c.plain.ensures))
 
-with-seen-requires : tie.Need-with-seen-requires
-with-seen-requires c κs = search rules
-
-returns-4 : tie.Need-returns-4
-returns-4 c text bases index name st g e =
-    let a = c.before.before.before.before.before.before.before.before.before.args in
+pub returns : goal.returns
+returns c text bases index name st g e =
+    let a = c.args in
     let j = a.found - 1 in
     let there : position (key_of text index) name a.s.names ≡ suc j = omega (arith, e) in
     rw c.with_seen.ensures (its_kind text a.cells.now bases index a.whats.now name a.s (omega arith) j there (omega arith)
-    (sym c.before.before.plain.ensures.0 ∙ c.before.if3.false) st g)
-
-pub store_spec : {M : Type 1} → statement M
-store_spec =
-    tie.close
-    (tie.spec
-    returns
-    sub-what
-    mul-what
-    element-copy-out-what
-    returns-2
-    sub-left
-    add-top
-    mul-plain
-    element-copy-out-plain
-    plain-requires
-    returns-3
-    with-seen-requires
-    returns-4)
+    (sym c.plain.ensures.0 ∙ c.if-plain-what.false) st g)

@@ -8,7 +8,6 @@ use Prim.Native.Nat.{ℕ, suc, ◌+◌, ◌-◌, ◌%◌, ◌<◌, ◌≤◌}
 use native.Mathlib.Omega.{arith}
 use lib.Dec.{leb}
 use lib.ListN.{length, get_or, set, take, drop, length-set}
-use borrow.Author.Rules.{rules}
 use borrow.Author.Tests.{le-leb, lt-leb, lt-ltb, le-ltb}
 use Rattle.chars.specs.Limits.{limits}
 use Rattle.names.specs.Index.{key_of, position, entered}
@@ -22,8 +21,7 @@ use Rattle.sight.specs.declared.Counts.{Counts}
 use Rattle.sight.specs.declared.Move.TheVariants.{Goes}
 use Rattle.sight.proofs.Sight.{top, plain_kind}
 use Rattle.naming.proofs.Names.{so_many_names, lookup_none, lookup_found, names_entered, apart_entered}
-use Rattle.naming.proofs.define.Statement.{statement}
-use Rattle.naming.proofs.define.Tie as tie
+use Rattle.naming.proofs.define.Goals as goal
 
 -- the new name, whose kind and whether it is a constant are in `what`
 module _
@@ -67,56 +65,26 @@ module _
         );
       }
 
-returns : tie.Need-returns
+pub returns-then-found-ne0 : goal.returns-then-found-ne0
 unfolding define new state_of meant ready
-returns c text bases name st g inside n m e =
-    let a = c.before.args in
-    let there : position (key_of text a.index.now) name a.s.names ≡ suc (a.found - 1) = omega (arith, e, c.if1.true) in
+returns-then-found-ne0 c text bases name st g inside n m e =
+    let a = c.args in
+    let there : position (key_of text a.index.now) name a.s.names ≡ suc (a.found - 1) = omega (arith, e, c.if-found-ne0.true) in
     let above = top a.cells.now a.s.base a.s.seen (omega arith) in
     record { same = rw (above, lookup_found text a.index.now a.whats.now name a.s.names (a.found - 1) there); on = tt }
 
-returns-2 : tie.Need-returns-2
+pub returns-then-count-ge-NAMES : goal.returns-then-count-ge-NAMES
 unfolding define new state_of kinds meant ready
-returns-2 c text bases name st g inside n m e =
-    let a = c.before.before.args in
-    let missing : position (key_of text a.index.now) name a.s.names ≡ 0 = sym e ∙ c.before.if1.false in
+returns-then-count-ge-NAMES c text bases name st g inside n m e =
+    let a = c.args in
+    let missing : position (key_of text a.index.now) name a.s.names ≡ 0 = sym e ∙ c.if-found-ne0.false in
     let above = top a.cells.now a.s.base a.s.seen (omega arith) in
     let none = lookup_none text a.index.now a.whats.now name a.s.names missing in
     record {
       same =
-          rw (above, none, so_many_names text a.index.now a.whats.now a.s.names, le-ltb a.s.names 128 c.if2.true);
+          rw (above, none, so_many_names text a.index.now a.whats.now a.s.names, le-ltb a.s.names 128 c.if-count-ge-NAMES.true);
       on = tt;
     }
-
-sub-left : tie.Need-overflow-sub-left
-sub-left c = search rules
-
-add-top : tie.Need-overflow-add-top
-add-top c = search rules
-
-mul-plain : tie.Need-overflow-mul-plain
-mul-plain c = search rules
-
-element-copy-out-plain : tie.Need-element-copy-out-plain
-element-copy-out-plain c = search rules
-
-plain-requires : tie.Need-plain-requires
-plain-requires c κs = search rules
-
-enter-requires : tie.Need-enter-requires
-enter-requires c κs = search rules
-
-add-whats : tie.Need-overflow-add-whats
-add-whats c = search rules
-
-mul-whats : tie.Need-overflow-mul-whats
-mul-whats c = search rules
-
-element-write-whats : tie.Need-element-write-whats
-element-write-whats c = search rules
-
-add-t44 : tie.Need-overflow-add-t44
-add-t44 c = search rules
 
 -- what is stored for the name
 constant_what : (w kind : ℕ) → kind < 16 → w ≡ kind + 16 → (w % 16 ≡ kind) × (leb 16 w ≡ true)
@@ -125,36 +93,18 @@ constant_what w kind h e = (omega arith, le-leb 16 w (omega arith))
 variable_what : (w kind : ℕ) → kind < 16 → w ≡ kind → (w % 16 ≡ kind) × (leb 16 w ≡ false)
 variable_what w kind h e = (omega arith, lt-leb 16 w (omega arith))
 
-returns-3 : tie.Need-returns-3
-returns-3 c text bases name st g inside n m e =
-    let a = c.before.before.before.before.before.before.before.args in
+pub returns : goal.returns
+returns c text bases name st g inside n m e =
+    let a = c.args in
     let l = a.index.now in
-    let w = c.if3.whats in
-    let plain = c.before.before.before.plain in
+    let w = c.if-constant.whats in
+    let plain = c.plain-kind in
     let stored : (w % 16 ≡ plain.result) × (leb 16 w ≡ a.constant) =
     ⊎_elim
     (λ o. let f = constant_what w plain.result plain.ensures.1 o.1 in (f.0, f.1 ∙ sym o.0.taken))
     (λ o. let f = variable_what w plain.result plain.ensures.1 o.1 in (f.0, f.1 ∙ sym o.0.left))
-    c.if3.branch in
-    let missing = sym e ∙ c.before.before.before.before.before.before.if1.false in
-    rw (n, c.before.enter.ensures, ← stored.1)
+    c.if-constant.branch in
+    let missing = sym e ∙ c.if-found-ne0.false in
+    rw (n, c.enter.ensures, ← stored.1)
     (defined text a.cells.now bases l a.whats.now a.s st g (omega arith) (omega arith) a.m a.at a.n inside (omega arith)
     (m ∙ ap mark_of n) w (stored.0 ∙ plain.ensures.0) (rw n at missing))
-
-pub define_spec : {M : Type 1} → statement M
-define_spec =
-    tie.close
-    (tie.spec
-    returns
-    returns-2
-    sub-left
-    add-top
-    mul-plain
-    element-copy-out-plain
-    plain-requires
-    enter-requires
-    add-whats
-    mul-whats
-    element-write-whats
-    add-t44
-    returns-3)

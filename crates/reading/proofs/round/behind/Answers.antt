@@ -1,0 +1,13 @@
+-- `reading::round::behind` meets its contract: a step goes on where its number is 0. Assumes nothing.
+use borrow.Author.Tests.{eq-eqb, ne_eqb}
+use Rattle.entities.specs.Stepping.{took}
+use Rattle.reading.specs.Rounds.{turn, behind_of}
+use Rattle.reading.proofs.round.behind.Goals as goal
+
+pub returns-then-number-ne0 : goal.returns-then-number-ne0
+unfolding turn took behind_of
+returns-then-number-ne0 c = rw (c.over.ensures, ne_eqb c.args.step.number 0 c.if-number-ne0.true)
+
+pub returns : goal.returns
+unfolding turn took behind_of
+returns c = rw (c.on.ensures, eq-eqb c.args.step.number 0 c.if-number-ne0.false)
