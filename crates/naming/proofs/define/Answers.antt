@@ -3,7 +3,6 @@
 use mathlib.Core.Path.{◌≡◌, sym, ◌∙◌, ap}
 use mathlib.Core.Bool.{true, false}
 use mathlib.Core.List.{List}
-use mathlib.Core.Logic.{⊎_elim}
 use Prim.Native.Nat.{ℕ, suc, ◌+◌, ◌-◌, ◌%◌, ◌<◌, ◌≤◌}
 use native.Mathlib.Omega.{arith}
 use lib.Dec.{leb}
@@ -22,6 +21,7 @@ use Rattle.sight.specs.declared.Move.TheVariants.{Goes}
 use Rattle.sight.proofs.Sight.{top, plain_kind}
 use Rattle.naming.proofs.Names.{so_many_names, lookup_none, lookup_found, names_entered, apart_entered}
 use Rattle.naming.proofs.define.Goals as goal
+use Rattle.naming.proofs.define.Goals.{then-constant, else-constant}
 
 -- the new name, whose kind and whether it is a constant are in `what`
 module _
@@ -100,10 +100,10 @@ returns c text bases name st g inside n m e =
     let w = c.if-constant.whats in
     let plain = c.plain-kind in
     let stored : (w % 16 ≡ plain.result) × (leb 16 w ≡ a.constant) =
-    ⊎_elim
-    (λ o. let f = constant_what w plain.result plain.ensures.1 o.1 in (f.0, f.1 ∙ sym o.0.taken))
-    (λ o. let f = variable_what w plain.result plain.ensures.1 o.1 in (f.0, f.1 ∙ sym o.0.left))
-    c.if-constant.branch in
+    elim c.if-constant.branch [
+      | then-constant o ↦ let f = constant_what w plain.result plain.ensures.1 o.whats-is in (f.0, f.1 ∙ sym o.if-constant.true)
+      | else-constant o ↦ let f = variable_what w plain.result plain.ensures.1 o.whats-is in (f.0, f.1 ∙ sym o.if-constant.false)
+    ] in
     let missing = sym e ∙ c.if-found-ne0.false in
     rw (n, c.enter.ensures, ← stored.1)
     (defined text a.cells.now bases l a.whats.now a.s st g (omega arith) (omega arith) a.m a.at a.n inside (omega arith)
