@@ -94,10 +94,14 @@ pub entities_kept :
 unfolding entities_from
 entities_kept [] front before rest rest' i f = refl
 entities_kept (e ∷ es) front before rest rest' i f =
-    rw (first e es front before rest rest' i f, list_on e es front before rest rest' i f, text_on e es front before rest rest' i f)
-    (ap (λ l. e ∷ l)
-    (entities_kept es (front' e es front before rest rest' i f) (before' e es front before rest rest' i f) rest rest' (suc i)
-    (front_length e es front before rest rest' i f)))
+    let behind_front = front' e es front before rest rest' i f in
+    let behind_before = before' e es front before rest rest' i f in
+    let on : entities_from (list e es front before rest rest' i f) (text e es front before rest rest' i f) (suc i) (length es) ≡ es =
+    ap (λ l. entities_from l (text e es front before rest rest' i f) (suc i) (length es)) (list_on e es front before rest rest' i f)
+    ∙ ap (λ t. entities_from (behind_front ++ (rows (length behind_before) es ++ rest)) t (suc i) (length es))
+    (text_on e es front before rest rest' i f)
+    ∙ entities_kept es behind_front behind_before rest rest' (suc i) (front_length e es front before rest rest' i f) in
+    rw (first e es front before rest rest' i f) (ap (λ l. e ∷ l) on)
 
 texts_inside :
     (es : List Entity) (front before rest rest' : List ℕ) (i : ℕ) → length front ≡ i * 6 → (j : ℕ) → j < length es
