@@ -5,14 +5,15 @@
 
 #![tactic(auto)]
 
-ghost use Rattle.std.specs.Prelude.{◌+◌, ◌^◌, ◌≤◌, ◌<◌, length};
+ghost use Rattle.std.specs.Prelude.{◌+◌, ◌^◌, ◌≤◌, ◌<◌, length, IfOk};
 
 mod line;
 
 use chars::limits;
-use libc::{STDIN_FILENO, STDOUT_FILENO};
+use input::read_full;
 use line::{Found, bytes, number};
 use reading::Answer;
+use std::io;
 
 const INPUT: usize = 65536;
 
@@ -175,7 +176,7 @@ fn past_blanks(line: &[u8], from: usize) -> usize {
 fn same_text(line: &[u8], from: usize, text: &[u8]) -> bool {
     let mut held = [BYTE_BEFORE; TEXT];
     bytes(line, past_blanks(line, from), &mut held);
-    check::same(text, &held)
+    text == held.as_slice()
 }
 
 // Whether both buffers hold what the line says from a place on, and past that what they held before.
@@ -298,19 +299,6 @@ fn is_case(line: &[u8]) -> bool {
     begins(line, b'R') || begins(line, b'C')
 }
 
-fn name_line(n: u64) {
-    io::write_all(STDOUT_FILENO, b"does not hold: line ");
-    io::print_decimal(STDOUT_FILENO, n);
-    io::write_all(STDOUT_FILENO, b"\n");
-}
-
-fn write_counts(passed: u64, failed: u64) {
-    io::print_decimal(STDOUT_FILENO, passed);
-    io::write_all(STDOUT_FILENO, b" passed, ");
-    io::print_decimal(STDOUT_FILENO, failed);
-    io::write_all(STDOUT_FILENO, b" failed\n");
-}
-
 // How many cases held, and how many did not.
 #[derive(Clone, Copy)]
 struct Tally {
@@ -319,28 +307,28 @@ struct Tally {
 }
 
 // A line counted in, where it is a case.
-fn count_in(t: Tally, line: &[u8], n: u64) -> Tally
+fn count_in(rt: &impl Print, t: Tally, line: &[u8], n: u64) -> io::Result<Tally>
     requires { (t.passed < 2 ^ 63) × (t.failed < 2 ^ 63) }
-    ensures { (result.passed ≤ t.passed + 1) × (result.failed ≤ t.failed + 1) }
+    ensures { IfOk result (λ r. (r.passed ≤ t.passed + 1) × (r.failed ≤ t.failed + 1)) }
 {
     if !is_case(line) {
-        return t;
+        return Ok(t);
     }
     if holds(line) {
-        return Tally {
+        return Ok(Tally {
             passed: t.passed + 1,
             failed: t.failed,
-        };
+        });
     }
-    name_line(n);
-    Tally {
+    println!(rt; "does not hold: line {n}")?;
+    Ok(Tally {
         passed: t.passed,
         failed: t.failed + 1,
-    }
+    })
 }
 
 // Every case of the input.
-fn hold_all(input: &[u8]) {
+fn hold_all(rt: &impl Print, input: &[u8]) -> io::Result<()> {
     let mut at = 0;
     let mut n = 0;
     let mut t = Tally {
@@ -350,14 +338,16 @@ fn hold_all(input: &[u8]) {
     while at < input.len() {
         let end = line_end(input, at);
         n += 1;
-        t = count_in(t, &input[at..end], n);
+        t = count_in(rt, t, &input[at..end], n)?;
         at = end + 1;
     }
-    write_counts(t.passed, t.failed);
+    let passed = t.passed;
+    let failed = t.failed;
+    println!(rt; "{passed} passed, {failed} failed")
 }
 
-fn main() {
+fn main(rt: HostRuntime) -> io::Result<()> {
     let mut input = [0u8; INPUT];
-    let length = io::read_full(STDIN_FILENO, &mut input);
-    hold_all(&input[..length]);
+    let length = read_full(&mut rt.reader(), &mut input)?;
+    hold_all(&rt, &input[..length])
 }

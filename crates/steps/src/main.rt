@@ -5,57 +5,50 @@
 
 ghost use Rattle.std.specs.Prelude.{◌≤◌, length};
 
-use libc::{STDIN_FILENO, STDOUT_FILENO};
+use input::read_full;
+use std::io;
 use step::{Answer, by_opening};
 
 const INPUT: usize = 65536;
 
-// A number, and the byte behind it.
-fn write_number(n: u64, behind: u8) {
-    io::print_decimal(STDOUT_FILENO, n);
-    io::write_all(STDOUT_FILENO, &[behind]);
-}
-
-fn write_token(a: Answer) {
-    write_number(a.place, b' ');
-    write_number(a.after, b' ');
-    write_number(a.sort, b' ');
-    write_number(a.prefix, b' ');
-    write_number(a.length, b'\n');
-}
-
-fn write_pair(first: u64, second: u64) {
-    write_number(first, b' ');
-    write_number(second, b'\n');
+fn write_token(rt: &impl Print, a: Answer) -> io::Result<()> {
+    let place = a.place;
+    let after = a.after;
+    let sort = a.sort;
+    let prefix = a.prefix;
+    let length = a.length;
+    println!(rt; "{place} {after} {sort} {prefix} {length}")
 }
 
 // Writes an answer, and tells whether it is a token with more behind it.
-fn write_answer(a: Answer) -> bool {
-    if a.number != 0 {
-        io::write_all(STDOUT_FILENO, b"refused ");
-        write_pair(a.number, a.place);
-        return false;
+fn write_answer(rt: &impl Print, a: Answer) -> io::Result<bool> {
+    let number = a.number;
+    let place = a.place;
+    let after = a.after;
+    if number != 0 {
+        println!(rt; "refused {number} {place}")?;
+        return Ok(false);
     }
     if a.sort == 3 {
-        io::write_all(STDOUT_FILENO, b"last ");
-        write_pair(a.place, a.after);
-        return false;
+        println!(rt; "last {place} {after}")?;
+        return Ok(false);
     }
-    write_token(a);
-    true
+    write_token(rt, a)?;
+    Ok(true)
 }
 
 // A draft from its opening on. A token takes a byte at least, so one step more than there are bytes comes to an end.
-fn step_through(draft: &[u8]) {
+fn step_through(rt: &impl Print, draft: &[u8]) -> io::Result<()> {
     let mut left = draft.len();
     let mut a = by_opening(draft, 0);
-    while write_answer(a) {
+    while write_answer(rt, a)? {
         if left == 0 {
-            return;
+            return Ok(());
         }
         left -= 1;
         a = by_opening(draft, a.next as usize);
     }
+    Ok(())
 }
 
 // The place of the first LF from `from` on, or the input's length.
@@ -73,17 +66,18 @@ fn line_end(input: &[u8], from: usize) -> usize
     i
 }
 
-fn each_line(input: &[u8]) {
+fn each_line(rt: &impl Print, input: &[u8]) -> io::Result<()> {
     let mut from = 0;
     while from < input.len() {
         let end = line_end(input, from);
-        step_through(&input[from..end]);
+        step_through(rt, &input[from..end])?;
         from = end + 1;
     }
+    Ok(())
 }
 
-fn main() {
+fn main(rt: HostRuntime) -> io::Result<()> {
     let mut input = [0u8; INPUT];
-    let length = io::read_full(STDIN_FILENO, &mut input);
-    each_line(&input[..length]);
+    let length = read_full(&mut rt.reader(), &mut input)?;
+    each_line(&rt, &input[..length])
 }

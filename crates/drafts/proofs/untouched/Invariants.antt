@@ -1,0 +1,10 @@
+-- What the loop keeps, and what falls.
+use Prim.Native.Nat.{◌-◌}
+use lib.ListN.{length}
+use Rattle.drafts.proofs.untouched.Given as goal
+
+abbrev pub invariant-loop-i : goal.invariant-loop-i
+invariant-loop-i l = Unit {0}
+
+abbrev pub decreases-loop-i : goal.decreases-loop-i
+decreases-loop-i l = length l.list - l.i
