@@ -1,5 +1,5 @@
 -- No second answer meets the contract of `check_kept`.
-use mathlib.Core.Path.{◌≡◌, refl, sym, ◌∙◌, ap}
+use mathlib.Core.Path.{◌≡◌, refl, ap}
 use Prim.Native.Nat.{ℕ}
 use Rattle.chars.proofs.Only.{one, OneAnswer}
 use Rattle.cells.specs.Kept.{ended_of}

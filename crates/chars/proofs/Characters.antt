@@ -1,18 +1,17 @@
 -- A character that cleaning gives: where it ends, and which number it can have. It takes one to six bytes and never reaches past the
 -- draft, since its sequences do not; its number is never nul, CR or a surrogate, since those are refused or joined.
 use mathlib.Core.Path.{◌≡◌, refl, sym, ◌∙◌, ap}
-use mathlib.Core.Bool.{Bool, true, false, ◌&&◌, true≢false}
+use mathlib.Core.Bool.{true, false, true≢false}
 use mathlib.Core.List.{List, [], ◌∷◌}
-use Prim.Native.Nat.{ℕ, zero, suc, ◌+◌, ◌-◌, ◌*◌, ◌<◌, ◌≤◌}
+use Prim.Native.Nat.{ℕ, ◌+◌, ◌-◌, ◌*◌, ◌<◌, ◌≤◌}
 use native.Mathlib.Omega.{arith}
 use lib.Dec.{leb, eqb}
 use lib.ListN.{length, get_or, drop, length-drop}
 use borrow.Author.Tests.{le-leb, leb-true, leb-false, eqb-true, eqb-false}
-use Rattle.chars.specs.Choice.{if◌then◌else◌, within}
-use Rattle.chars.specs.Character.{sequence, high, low, paired, judged, carriage, character, character_at, encoded}
+use Rattle.chars.specs.Choice.{within}
+use Rattle.chars.specs.Character.{sequence, high, low, paired, judged, carriage, character, encoded}
 use Rattle.chars.specs.declared.Sequence.{Sequence}
 use Rattle.chars.specs.declared.Sequence.TheVariants.{Whole, Malformed}
-use Rattle.chars.specs.declared.Character.{Character}
 use Rattle.chars.specs.declared.Character.TheVariants.{Clean, Refused, End}
 use Rattle.chars.proofs.Cases.{by_test, either}
 use Rattle.chars.proofs.Extent.{within_true, Sound, sequence_sound, encoded_one, encoded_three, encoded_size}

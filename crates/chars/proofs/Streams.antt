@@ -1,19 +1,18 @@
 -- The stream from a place of a draft on, one character at a time: a character that cleaning gives there, and then the stream from the byte
 -- after it; or the stream's end. A character's bytes are all there, so the bytes still to be passed over never run out.
-use mathlib.Core.Path.{◌≡◌, refl, sym, ◌∙◌, ap}
+use mathlib.Core.Path.{◌≡◌, refl, ◌∙◌, ap}
 use mathlib.Core.List.{List, [], ◌∷◌}
 use Prim.Native.Nat.{ℕ, zero, suc, ◌+◌, ◌-◌, ◌<◌, ◌≤◌, min}
 use native.Mathlib.Omega.{arith}
-use native.Mathlib.Numerals.{add-one}
-use lib.Dec.{leb, eqb, ltb}
+use lib.Dec.{leb}
 use lib.ListN.{length, get_or, drop, length-drop, drop_of_length-le}
 use lib.Seq.{drop-cons, drop-drop}
 use borrow.Author.Tests.{ne_eqb, lt-leb, leb-true, leb-false}
 use Rattle.chars.specs.Character.{judged, character, character_at, told}
-use Rattle.chars.specs.Stream.{Stream, next, stop, begun, stream, stream_at}
+use Rattle.chars.specs.Stream.{next, stop, begun, stream, stream_at}
 use Rattle.chars.specs.declared.Character.{Character}
 use Rattle.chars.specs.declared.Character.TheVariants.{Clean, Refused, End}
-use Rattle.chars.proofs.Characters.{Is, character_is, goes_on}
+use Rattle.chars.proofs.Characters.{character_is, goes_on}
 use Rattle.chars.proofs.Cases.{either}
 use Rattle.chars.proofs.Sequences.{single}
 

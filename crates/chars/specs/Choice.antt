@@ -1,6 +1,6 @@
 -- How the definitions decide: a choice by a test, and the tests that they share.
 use Rattle.std.specs.Prelude.{ℕ, Bool, true, false, ◌&&◌, ◌||◌, List, [], ◌∷◌, leb, eqb}
-use Prim.Native.Char.{Char, code}
+use Prim.Native.Char.{code}
 use Prim.Native.String.{String}
 
 infix 10 if◌then◌else◌

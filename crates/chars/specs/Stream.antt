@@ -1,5 +1,5 @@
 -- A draft's characters as a stream (004, section 2; document 01, "From bytes to characters").
-use Rattle.std.specs.Prelude.{ℕ, zero, suc, ◌-◌, min, Bool, true, false, List, [], ◌∷◌, ◌++◌, leb, eqb, length, take, drop}
+use Rattle.std.specs.Prelude.{ℕ, zero, suc, ◌-◌, min, List, [], ◌∷◌, ◌++◌, leb, length, take, drop}
 use Rattle.chars.specs.Choice.{if◌then◌else◌, same}
 use Rattle.chars.specs.Character.{character, encoded}
 use Rattle.chars.specs.declared.Character.{Character}

@@ -1,7 +1,7 @@
 -- Two checks under one table whose readings are the same give the same answer and hold the same: behind the table, a check looks at nothing
 -- but what was read. So drafts that agree through an accepted `|;`, and more room than is needed, change nothing.
-use Prim.Native.Nat.{ℕ, ◌*◌, ◌/◌, ◌≤◌}
-use mathlib.Core.Path.{◌≡◌, refl, sym, ◌∙◌, ap}
+use Prim.Native.Nat.{ℕ, ◌/◌, ◌≤◌}
+use mathlib.Core.Path.{◌≡◌, refl, ◌∙◌, ap}
 use mathlib.Core.List.{List}
 use mathlib.Core.Option.{none, some}
 use native.Mathlib.Omega.{arith}

@@ -1,15 +1,13 @@
 -- The table of the drafts marked (P) holds: antt computes the definitions on each draft and finds the answer that the table states.
-use Prim.Native.String.{String}
 use mathlib.Core.Path.{◌≡◌, refl}
-use mathlib.Core.List.{List, [], map}
+use mathlib.Core.List.{[], map}
 use Rattle.chars.specs.Limits.{limits}
 use Rattle.chars.specs.Choice.{ascii}
 use Rattle.chars.proofs.Computes.{computes as chars_compute}
 use Rattle.tokens.proofs.Computes.{computes as tokens_compute}
 use Rattle.entities.proofs.Computes.{computes as entities_compute}
 use Rattle.reading.proofs.Computes.{computes as reading_computes}
-use Rattle.reading.specs.Reading.{Read, read_with}
-use Rattle.reading.specs.declared.Answer.{Answer}
+use Rattle.reading.specs.Reading.{read_with}
 use Rattle.checking.specs.Checking.{checked_with}
 use Rattle.checking.specs.Drafts.{Case, cases, table, ample}
 use Rattle.table.proofs.Computes.{computes as table_computes}

@@ -1,5 +1,5 @@
 -- The check, computed with a reading in one walk over the draft (reading/proofs/Once.antt).
-use mathlib.Core.Path.{◌≡◌, refl}
+use mathlib.Core.Path.{◌≡◌}
 use mathlib.Core.List.{List}
 use mathlib.Core.Option.{none, some}
 use Prim.Native.Nat.{ℕ}

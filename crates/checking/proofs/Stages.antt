@@ -14,7 +14,6 @@ use Rattle.reading.proofs.Closed.{closed}
 use Rattle.table.specs.Table.{Operation, operations}
 use Rattle.table.specs.Entered.{sound, operations_of}
 use Rattle.table.proofs.Sound.{operations_sound, operations_unsound}
-use Rattle.rules.specs.Cells.{Ended}
 use Rattle.rules.specs.Kinds.{check as check_of}
 use Rattle.cells.specs.Kept.{Held, check_kept}
 use Rattle.cells.proofs.Keeping.{kept, held}

@@ -1,9 +1,8 @@
 -- Checking: the call that judges the table, reads, and then checks what was read (document 01, "Order").
-use Rattle.std.specs.Prelude.{ℕ, Bool, true, false, List, eqb}
-use Rattle.std.proofs.Math.Option.{Option, none, some}
+use Rattle.std.specs.Prelude.{ℕ, true, false, List, eqb}
+use Rattle.std.proofs.Math.Option.{none, some}
 use Rattle.chars.specs.Limits.{Limits}
 use Rattle.chars.specs.Choice.{if◌then◌else◌}
-use Rattle.entities.specs.Entity.{Entity}
 use Rattle.entities.specs.Making.{Room}
 use Rattle.reading.specs.Reading.{Read, Reading, read_with, room_of, answered}
 use Rattle.reading.specs.declared.Answer.{Answer}

@@ -1,16 +1,13 @@
 -- Copying clean bytes, one character at a time: what stands at the front of the part, and what is still to be copied, make up the whole,
 -- and behind it the part is as it was. A byte that is a character by itself and a character that is re-encoded are one step alike.
 use mathlib.Core.Path.{◌≡◌, refl, sym, ◌∙◌, ap}
-use mathlib.Core.Bool.{Bool, true, false}
 use mathlib.Core.List.{List, [], ◌∷◌, ◌++◌, append-nil, append_assoc}
 use Prim.Native.Nat.{ℕ, zero, suc, ◌+◌, ◌-◌, ◌<◌, ◌≤◌}
 use native.Mathlib.Omega.{arith}
 use native.Mathlib.Numerals.{add-one}
-use lib.Dec.{ltb}
 use lib.ListN.{length, get_or, take, drop, set, length-append, length-drop, take-append-drop}
 use lib.Seq.{length-take-le, take_at, drop_at, set_split, drop-drop, take-append_seam, append_snoc, paste, paste-zero, paste-suc, get_or-drop}
 use borrow.Author.Tests.{le-ltb, lt-ltb}
-use Rattle.chars.specs.Choice.{if◌then◌else◌}
 use Rattle.chars.specs.Character.{character_at, encoded, nearest, padded}
 use Rattle.chars.specs.Stream.{stream_at, clean}
 use Rattle.chars.specs.declared.Character.TheVariants.{Clean}

@@ -1,18 +1,18 @@
 -- A token that its rules allow, against Making: what does not fit is refused by the number that counting finds, and what fits leaves the
 -- room, the groups and the buffers as Making says. Entities with nothing in them but a count take no text, so that the text buffer does not
 -- bear on them.
-use mathlib.Core.Path.{◌≡◌, refl, sym, ◌∙◌, ap}
+use mathlib.Core.Path.{◌≡◌, refl, sym, ◌∙◌}
 use mathlib.Core.List.{List, [], ◌∷◌, ◌++◌}
-use Prim.Native.Nat.{ℕ, suc, ◌+◌, ◌-◌, ◌*◌, ◌<◌, ◌≤◌, ◌/◌}
+use Prim.Native.Nat.{ℕ, suc, ◌+◌, ◌-◌, ◌*◌, ◌≤◌, ◌/◌}
 use native.Mathlib.Omega.{arith}
 use lib.Dec.{eqb, ltb}
-use lib.ListN.{length, length-append, take-append-drop}
+use lib.ListN.{length, take-append-drop}
 use borrow.Author.Tests.{eq-eqb, ne_eqb, eqb-true, eqb-false, lt-ltb, le-ltb, ltb-true, ltb-false}
 use Rattle.chars.specs.Choice.{if◌then◌else◌}
 use Rattle.chars.proofs.Cases.{either}
 use Rattle.entities.specs.Entity.{Entity, bare, size, sizes, texts}
 use Rattle.entities.specs.Making.{Reader, Room, Handled, stops, holds, makes, fitted, shortage}
-use Rattle.entities.specs.Judging.{bares, counting, written, text_written, short_of}
+use Rattle.entities.specs.Judging.{bares, counting, written, text_written}
 use Rattle.entities.specs.Stepping.{Ready, open_groups, below, room_left, reader_of, agrees, Goes, Stops, took, Fits, short, room}
 use Rattle.entities.specs.declared.state.State.{State}
 use Rattle.entities.specs.declared.state.Step.{Step}

@@ -1,16 +1,15 @@
 -- Clean data with CR LF in it. A character whose first byte is neither CR nor ED is as many bytes as it is re-encoded in, and none of them
 -- is CR or ED. So bytes up to the next of these two are whole characters as they stand; and CR LF is as clean as its LF alone.
 use mathlib.Core.Path.{◌≡◌, refl, sym, ◌∙◌, ap}
-use mathlib.Core.Bool.{Bool, true, false, not, ◌&&◌, true≢false}
-use mathlib.Core.List.{List, [], ◌∷◌, ◌++◌, append-nil, append_assoc}
+use mathlib.Core.Bool.{true, false, true≢false}
+use mathlib.Core.List.{List, [], ◌∷◌, ◌++◌, append_assoc}
 use Prim.Native.Nat.{ℕ, zero, suc, ◌+◌, ◌-◌, ◌/◌, ◌%◌, ◌<◌, ◌≤◌}
 use native.Mathlib.Omega.{arith}
 use native.Mathlib.Numerals.{add-one}
 use lib.Dec.{eqb}
-use lib.ListN.{length, get_or, take, drop, length-append, length-drop, length-take, take-append-drop}
+use lib.ListN.{length, get_or, take, drop, length-append, length-drop, take-append-drop}
 use lib.Seq.{length-take-le, take-add, drop-drop, drop-cons, get_or-take, get_or-drop}
-use borrow.Author.Tests.{ne_eqb, eqb-false, eqb-true}
-use Rattle.chars.specs.Choice.{within}
+use borrow.Author.Tests.{ne_eqb, eqb-true}
 use Rattle.chars.specs.Character.{high, low, sequence, judged, carriage, character, character_at, encoded}
 use Rattle.chars.specs.Stream.{stream_at, clean}
 use Rattle.chars.specs.declared.Character.{Character}
@@ -18,7 +17,7 @@ use Rattle.chars.specs.declared.Character.TheVariants.{Clean, Refused, End}
 use Rattle.chars.specs.declared.Sequence.{Sequence}
 use Rattle.chars.specs.declared.Sequence.TheVariants.{Whole, Malformed}
 use Rattle.chars.proofs.Cases.{by_test, by_bound}
-use Rattle.chars.proofs.Characters.{refused, ended, character_is}
+use Rattle.chars.proofs.Characters.{refused, ended}
 use Rattle.chars.proofs.Extent.{within_true, sequence_sound, three_bytes, by_range, encoded_one, encoded_two, encoded_three, encoded_four}
 use Rattle.chars.proofs.Extent.{encoded_size}
 use Rattle.chars.proofs.Kept.{kept, sequence_kept}
@@ -28,7 +27,7 @@ use Rattle.tokens.proofs.Skipping.{reaches}
 use Rattle.tokens.proofs.Spans.{Spans, empty, led, spans_on}
 use Rattle.runs.specs.Bytes.{settled, Passed}
 use Rattle.copying.proofs.Pairs.{feed}
-use Rattle.copying.proofs.Copying.{Copying, advance_by, finished}
+use Rattle.copying.proofs.Copying.{Copying, advance_by}
 
 -- a high surrogate's first byte
 first_of_high :

@@ -1,9 +1,9 @@
 -- More room changes nothing but refusals for want of it, 18 and 19. What a token comes to asks the room only whether its entities fit, and
 -- what fits a room fits a larger one and leaves no less of it; every other refusal is given without a look at the room.
-use mathlib.Core.Path.{◌≡◌, refl, sym, ◌∙◌, ap}
+use mathlib.Core.Path.{◌≡◌, refl, ap}
 use mathlib.Core.Bool.{Bool, false, not, ◌&&◌}
 use mathlib.Core.List.{List, [], ◌∷◌, ◌++◌}
-use Prim.Native.Nat.{ℕ, ◌-◌, ◌*◌, ◌/◌, ◌≤◌}
+use Prim.Native.Nat.{ℕ, ◌-◌, ◌/◌, ◌≤◌}
 use native.Mathlib.Omega.{arith}
 use lib.Dec.{ltb, eqb}
 use lib.ListN.{length}
@@ -12,7 +12,7 @@ use Rattle.chars.specs.Limits.{Limits}
 use Rattle.chars.specs.Stream.{start, stream_at}
 use Rattle.chars.proofs.Cases.{either}
 use Rattle.tokens.specs.Tokens.{Tokens, token, last, refused, tokens, between}
-use Rattle.entities.specs.Entity.{Entity, bare, size, sizes, texts, rows, begin_group}
+use Rattle.entities.specs.Entity.{Entity, bare, size, sizes, begin_group}
 use Rattle.entities.specs.Making.{Reader, fresh, closing, Judged, refuses, makes, judged, judged_last, within_groups}
 use Rattle.entities.specs.Making.{Room, shortage, Handled, stops, holds, fitted, handled}
 use Rattle.reading.specs.Reading.{Read, refusal, before, taken, success, text_of, string_of, entities, read_with}

@@ -1,14 +1,13 @@
 -- One round, by what stands at its place: whitespace and comments leave what is still to be read as it is, a token alone is one that its
 -- byte tells, and any other is what is found there.
 use mathlib.Core.Path.{◌≡◌, refl, sym, ◌∙◌, ap}
-use mathlib.Core.Bool.{Bool, true, false, not, ◌||◌, true≢false}
+use mathlib.Core.Bool.{true, true≢false}
 use mathlib.Core.List.{List, []}
 use Prim.Native.Nat.{ℕ, ◌+◌, ◌-◌, ◌<◌, ◌≤◌}
 use native.Mathlib.Omega.{arith}
 use lib.Dec.{eqb}
 use lib.ListN.{length, get_or}
-use borrow.Author.Tests.{eq-eqb, ne_eqb, eqb-true}
-use Rattle.chars.specs.Choice.{if◌then◌else◌}
+use borrow.Author.Tests.{ne_eqb, eqb-true}
 use Rattle.chars.specs.Limits.{limits}
 use Rattle.chars.specs.Stream.{stream_at, clean}
 use Rattle.chars.proofs.Cases.{either}
@@ -25,13 +24,13 @@ use Rattle.scan.proofs.Starts.{alone_other}
 use Rattle.entities.specs.Entity.{sizes}
 use Rattle.entities.specs.Making.{fitted, handled, judged, command}
 use Rattle.entities.specs.Judging.{bares}
-use Rattle.entities.specs.Stepping.{Contents, Ready, Steady, open_groups, room_left, reader_of, agrees, Took, Goes, Stops, judged_as}
+use Rattle.entities.specs.Stepping.{Contents, Ready, Steady, room_left, reader_of, agrees, Took, Stops, judged_as}
 use Rattle.entities.specs.Stepping.{closing_as}
 use Rattle.entities.specs.Stepping.{structural, worded}
 use Rattle.entities.specs.declared.state.State.{State}
 use Rattle.entities.proofs.Listing.{written_none, text_none}
 use Rattle.entities.proofs.Cutting.{first_byte}
-use Rattle.reading.specs.Reading.{Read, refusal, before, entities}
+use Rattle.reading.specs.Reading.{refusal, before, entities}
 use Rattle.reading.specs.Rounds.{ahead, goes_round, On, Over, behind_of}
 use Rattle.reading.proofs.Walking.{Taken, later, behind_here, here}
 

@@ -1,7 +1,6 @@
 -- The tokens of a draft one after another: what is read so far stands in the buffers, and what is still to be read is what the definition
 -- reads from here on. One token moves some of the second to the first.
 use mathlib.Core.Path.{◌≡◌, refl, sym, ◌∙◌, ap}
-use mathlib.Core.Bool.{false}
 use mathlib.Core.List.{List, [], ◌++◌, append-nil, append_assoc}
 use Prim.Native.Nat.{ℕ, ◌+◌, ◌-◌, ◌<◌, ◌≤◌, ◌/◌}
 use native.Mathlib.Omega.{arith}
@@ -29,7 +28,7 @@ use Rattle.entities.proofs.OpenGroups.{higher}
 use Rattle.entities.proofs.Listing.{written_none, written_more, text_none, text_more, sizes_append}
 use Rattle.reading.specs.Reading.{Read, refusal, success, before, taken, text_of, string_of, entities, read_with, reading, answered}
 use Rattle.reading.specs.Reading.{room_of}
-use Rattle.reading.specs.Rounds.{SoFar, ahead, Went, goes_round, On, Over, behind_of, ended_of}
+use Rattle.reading.specs.Rounds.{SoFar, ahead, Went, goes_round, Over, behind_of, ended_of}
 use Rattle.reading.specs.declared.Answer.{Answer}
 
 -- what reading comes to at a token: it is handled, and then the tokens behind it are read, or it was the last

@@ -1,6 +1,5 @@
 -- Whitespace that stands first: the tokens behind it are the same as before it, since each of its bytes is passed over alone.
 use mathlib.Core.Path.{◌≡◌, refl, ◌∙◌, ap}
-use mathlib.Core.Bool.{true, false}
 use mathlib.Core.List.{List}
 use Prim.Native.Nat.{ℕ, zero, suc, ◌+◌}
 use native.Mathlib.Omega.{arith}

@@ -15,7 +15,7 @@ use Rattle.chars.specs.Limits.{limits}
 use Rattle.chars.specs.Character.{character_at, encoded}
 use Rattle.chars.specs.Stream.{stream_at}
 use Rattle.chars.specs.declared.Character.TheVariants.{Clean}
-use Rattle.chars.proofs.Cases.{both, either}
+use Rattle.chars.proofs.Cases.{both}
 use Rattle.chars.proofs.Extent.{encoded_one, within_true}
 use Rattle.chars.proofs.Streams.{at_end, plain as plain_at}
 use Rattle.tokens.specs.Tokens.{string, up, down, nested, inside, step, follows, tokens, first}
@@ -23,7 +23,7 @@ use Rattle.tokens.specs.Runs.{sort_of, opened_as}
 use Rattle.tokens.proofs.Skipping.{by_character, reaches, no_mark}
 use Rattle.tokens.proofs.Strings.{closes_here, goes_on}
 use Rattle.runs.specs.Bytes.{plain, Passed}
-use Rattle.wide.specs.Wide.{Wider, Wides, none, more}
+use Rattle.wide.specs.Wide.{Wides, none, more}
 use Rattle.scan.specs.Data.{Even, Goes}
 use Rattle.scan.specs.Found.{Closed}
 

@@ -1,15 +1,14 @@
 -- How long a token and a string may be, over every length and every limit: up to the limit they are read whole, and one byte more is
 -- refused at its own place, however much follows.
-use mathlib.Core.Path.{◌≡◌, refl, sym, ◌∙◌, ap}
-use mathlib.Core.Bool.{Bool, true, false, not, ◌&&◌}
+use mathlib.Core.Path.{◌≡◌, sym, ◌∙◌, ap}
+use mathlib.Core.Bool.{true, false}
 use mathlib.Core.List.{List}
 use Prim.Native.Nat.{ℕ, suc, ◌+◌, ◌-◌, ◌<◌, ◌≤◌}
 use native.Mathlib.Omega.{arith}
-use lib.Dec.{eqb}
 use lib.ListN.{length, get_or}
 use borrow.Author.Tests.{ne_eqb}
 use Rattle.chars.specs.Limits.{Limits}
-use Rattle.chars.specs.Character.{character_at, encoded}
+use Rattle.chars.specs.Character.{character_at}
 use Rattle.chars.specs.Stream.{stream_at}
 use Rattle.chars.specs.declared.Character.TheVariants.{Clean}
 use Rattle.chars.proofs.Extent.{encoded_one}
@@ -17,7 +16,7 @@ use Rattle.tokens.specs.Sorts.{exclusive, legal}
 use Rattle.tokens.specs.Tokens.{between, word, string, Tokens, Opened, closed, down, tokens, first, shown}
 use Rattle.tokens.specs.declared.Token.TheVariants.{Simple, Refused}
 use Rattle.tokens.proofs.Passing.{class_at, stepwise}
-use Rattle.tokens.proofs.Classes.{low, plain, Ordinary, ordinary}
+use Rattle.tokens.proofs.Classes.{low, plain, ordinary}
 use Rattle.tokens.proofs.Skipping.{alone_at}
 use Rattle.tokens.proofs.Words.{longer, ended, too_long}
 use Rattle.tokens.proofs.Strings.{plainly, down_not, closes_here, too_long as too_much}

@@ -12,12 +12,12 @@ use borrow.Author.Tests.{ltb-true, ltb-false, not-false}
 use Rattle.chars.specs.Choice.{if◌then◌else◌}
 use Rattle.chars.specs.Limits.{Limits}
 use Rattle.chars.specs.Character.{character_at, encoded}
-use Rattle.chars.specs.Stream.{Stream, next, stop, stream_at}
+use Rattle.chars.specs.Stream.{next, stream_at}
 use Rattle.chars.specs.declared.Character.TheVariants.{Clean}
 use Rattle.tokens.specs.Sorts.{visible, white, atomic, exclusive, inclusive, legal}
 use Rattle.tokens.specs.Tokens.{simple, quoted, curly, Whole, Tokens, token, last, refused, Opened, State, between, comment, bar}
 use Rattle.tokens.specs.Tokens.{word, string}
-use Rattle.tokens.specs.Tokens.{Outcome, goes, gives, ends, refuses, simply, closed, opens, begins, continues, inside, down, nested}
+use Rattle.tokens.specs.Tokens.{Outcome, goes, gives, ends, refuses, simply, closed, opens, begins, continues, inside, down}
 use Rattle.tokens.specs.Tokens.{step, follows, tokens}
 use Rattle.chars.specs.Stream.{clean}
 use Rattle.chars.proofs.Cases.{either}

@@ -1,28 +1,24 @@
 -- Where no token has begun: whitespace and comments are passed over, and the character behind them begins a token, is one, opens a string,
 -- or is illegal.
-use mathlib.Core.Path.{◌≡◌, refl, sym, ◌∙◌, ap}
+use mathlib.Core.Path.{◌≡◌, refl, ap}
 use mathlib.Core.Bool.{Bool, true, false, not}
 use mathlib.Core.List.{List}
-use Prim.Native.Nat.{ℕ, suc, ◌+◌, ◌-◌, ◌<◌, ◌≤◌}
+use Prim.Native.Nat.{ℕ, ◌≤◌}
 use native.Mathlib.Omega.{arith}
 use lib.Dec.{eqb}
-use lib.ListN.{length, get_or, drop}
 use borrow.Author.Tests.{eq-eqb, ne_eqb}
-use Rattle.chars.specs.Choice.{if◌then◌else◌}
-use Rattle.chars.specs.Limits.{Limits, limits}
+use Rattle.chars.specs.Limits.{Limits}
 use Rattle.chars.specs.Character.{character_at}
 use Rattle.chars.specs.Stream.{Stream, next, stop, stream_at}
 use Rattle.chars.specs.declared.Character.TheVariants.{Clean}
 use Rattle.chars.proofs.Cases.{either}
-use Rattle.chars.proofs.Streams.{at_end, at_character}
-use Rattle.tokens.specs.Sorts.{visible, white, atomic, exclusive, inclusive, legal}
-use Rattle.tokens.specs.Tokens.{State, between, comment, bar, word, Tokens, opens, begins, continues, simply, step, follows, tokens}
+use Rattle.chars.proofs.Streams.{at_character}
+use Rattle.tokens.specs.Sorts.{visible, white, atomic, inclusive}
+use Rattle.tokens.specs.Tokens.{State, between, comment, bar, word, opens, begins, simply, step, follows, tokens}
 use Rattle.tokens.specs.Tokens.{first, shown}
-use Rattle.tokens.specs.Runs.{class_of, past_all}
+use Rattle.tokens.specs.Runs.{past_all}
 use Rattle.tokens.specs.declared.Token.TheVariants.{Simple, Last, Refused}
-use Rattle.tokens.proofs.Passing.{class_at}
-use Rattle.tokens.proofs.Classes.{Plain, plain}
-use Rattle.tokens.proofs.Skipping.{next_at, by_character, count}
+use Rattle.tokens.proofs.Skipping.{by_character, count}
 
 -- the state inside a comment or outside
 abbrev where_in : Bool → State

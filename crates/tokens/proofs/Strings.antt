@@ -3,15 +3,15 @@
 use mathlib.Core.Path.{◌≡◌, refl, ap}
 use mathlib.Core.Bool.{Bool, true, false, not, ◌&&◌}
 use mathlib.Core.List.{List}
-use Prim.Native.Nat.{ℕ, ◌+◌, ◌-◌, ◌<◌, ◌≤◌}
+use Prim.Native.Nat.{ℕ, ◌+◌, ◌<◌, ◌≤◌}
 use native.Mathlib.Omega.{arith}
-use lib.Dec.{eqb, ltb}
+use lib.Dec.{eqb}
 use lib.ListN.{length, get_or}
 use borrow.Author.Tests.{lt-ltb, le-ltb, eqb-false}
 use Rattle.chars.specs.Choice.{if◌then◌else◌}
 use Rattle.chars.specs.Limits.{Limits}
 use Rattle.chars.specs.Character.{character_at, encoded}
-use Rattle.chars.specs.Stream.{next, stop, stream_at}
+use Rattle.chars.specs.Stream.{stream_at}
 use Rattle.chars.specs.declared.Character.TheVariants.{Clean}
 use Rattle.chars.proofs.Cases.{either}
 use Rattle.chars.proofs.Extent.{encoded_one}

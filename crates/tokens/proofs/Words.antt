@@ -1,28 +1,27 @@
 -- A token that has begun, one character at a time, and a run of plain characters at once: each adds one byte, and the character behind them
 -- ends the token, opens a string, is illegal, or is one byte too many.
-use mathlib.Core.Path.{◌≡◌, refl, sym, ◌∙◌, ap}
-use mathlib.Core.Bool.{Bool, true, false, not}
+use mathlib.Core.Path.{◌≡◌, sym, ◌∙◌, ap}
+use mathlib.Core.Bool.{true, false}
 use mathlib.Core.List.{List}
 use Prim.Native.Nat.{ℕ, suc, ◌+◌, ◌-◌, ◌<◌, ◌≤◌, min}
 use native.Mathlib.Omega.{arith}
-use lib.Dec.{eqb, ltb}
+use lib.Dec.{ltb}
 use lib.ListN.{length, get_or, drop}
 use borrow.Author.Tests.{lt-ltb, le-ltb, ltb-true, ltb-false}
 use Rattle.chars.proofs.Cases.{either}
 use Rattle.chars.proofs.Characters.{outside}
-use Rattle.chars.specs.Choice.{if◌then◌else◌}
 use Rattle.chars.specs.Limits.{Limits, limits}
 use Rattle.chars.specs.Character.{character_at}
-use Rattle.chars.specs.Stream.{Stream, next, stop, stream_at}
+use Rattle.chars.specs.Stream.{stream_at}
 use Rattle.chars.specs.declared.Character.TheVariants.{Clean}
 use Rattle.chars.proofs.Streams.{at_end, at_character}
-use Rattle.tokens.specs.Sorts.{visible, white, atomic, exclusive, inclusive, legal}
-use Rattle.tokens.specs.Tokens.{State, between, bar, word, Tokens, opens, begins, continues, simply, step, follows, tokens, first}
+use Rattle.tokens.specs.Sorts.{exclusive, inclusive, legal}
+use Rattle.tokens.specs.Tokens.{State, word, Tokens, opens, continues, simply, step, follows, tokens, first}
 use Rattle.tokens.specs.Tokens.{shown}
 use Rattle.tokens.specs.Runs.{run}
-use Rattle.tokens.specs.declared.Token.TheVariants.{Simple, Last, Refused}
+use Rattle.tokens.specs.declared.Token.TheVariants.{Simple, Refused}
 use Rattle.tokens.proofs.Passing.{class_at, carried, most, ends}
-use Rattle.tokens.proofs.Classes.{Plain, plain}
+use Rattle.tokens.proofs.Classes.{plain}
 use Rattle.tokens.proofs.Skipping.{next_at}
 
 -- the draft ends first

@@ -1,5 +1,5 @@
 -- Step: one token after another from an opened draft (document 01, "The calls").
-use Rattle.std.specs.Prelude.{ℕ, zero, suc, Bool, true, false, List, ltb, length}
+use Rattle.std.specs.Prelude.{ℕ, zero, suc, List, ltb, length}
 use Rattle.chars.specs.Limits.{Limits}
 use Rattle.chars.specs.Choice.{if◌then◌else◌}
 use Rattle.chars.specs.Stream.{start}

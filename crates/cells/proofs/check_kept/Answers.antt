@@ -1,7 +1,6 @@
 -- `cells::check_kept` meets its contract. The invariant: what the definition answers from this entity and these cells on is what it answers
 -- from the first one on. Assumes nothing.
 use mathlib.Core.Path.{◌≡◌, refl, sym, ◌∙◌, ap}
-use mathlib.Core.Bool.{true}
 use Prim.Native.Nat.{◌+◌, ◌-◌}
 use native.Mathlib.Omega.{arith}
 use Rattle.chars.specs.Limits.{limits}

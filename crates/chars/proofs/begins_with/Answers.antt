@@ -1,7 +1,6 @@
 -- `chars::begins_with` meets its contract. The invariant: what the definition answers for the parts from `i` on is what it answers for the
 -- whole. Assumes nothing.
 use mathlib.Core.Path.{◌≡◌, refl, sym, ◌∙◌}
-use Prim.Native.Nat.{◌-◌}
 use native.Mathlib.Omega.{arith}
 use lib.ListN.{length, take, length-take}
 use lib.Seq.{length-take-le, get_or-take}

@@ -1,7 +1,6 @@
 -- `chars::continued` meets its contract. The loop's invariant: what the definition answers from here is what it answered at the start,
 -- and the number in hand leaves room for the bits still to come. Assumes nothing.
 use mathlib.Core.Path.{refl, ◌∙◌, sym}
-use Prim.Native.Nat.{◌-◌}
 use native.Mathlib.Omega.{arith}
 use Rattle.chars.proofs.Sequences.{done, out, below, above, onward, room, small}
 use Rattle.chars.proofs.continued.Goals as goal

@@ -1,7 +1,7 @@
 -- The loop's invariant: what the definition answers from here is what it answered at the start, and the number in hand leaves room for
 -- the bits still to come.
 use mathlib.Core.Path.{◌≡◌}
-use Prim.Native.Nat.{◌+◌, ◌-◌, ◌*◌, ◌^◌, ◌≤◌}
+use Prim.Native.Nat.{◌+◌, ◌*◌, ◌^◌, ◌≤◌}
 use lib.ListN.{drop}
 use Rattle.chars.specs.Character.{continued}
 use Rattle.chars.proofs.continued.Given as goal

@@ -1,7 +1,6 @@
 -- `copying::kept` meets its contract. The invariant: the part is the one lent, with as many bytes of the draft pasted in as turns
 -- were made, each with a class above 0. Assumes nothing.
 use mathlib.Core.Path.{refl}
-use Prim.Native.Nat.{◌-◌}
 use native.Mathlib.Omega.{arith}
 use native.Mathlib.Numerals.{add-one}
 use lib.ListN.{drop, length-set, length-drop}

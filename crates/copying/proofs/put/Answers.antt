@@ -1,7 +1,6 @@
 -- `copying::put` meets its contract. The invariant: the part is the one lent, with as many
 -- bytes pasted in as turns were made. Assumes nothing.
 use mathlib.Core.Path.{◌≡◌, ◌∙◌, ap}
-use Prim.Native.Nat.{◌-◌}
 use native.Mathlib.Omega.{arith}
 use native.Mathlib.Numerals.{add-one}
 use borrow.Author.Rules.{rules}

@@ -1,6 +1,5 @@
 -- `drafts::line_end` is a place of the input and ends: each turn is a byte further.
 use native.Mathlib.Omega.{arith}
-use Prim.Native.Nat.{◌-◌}
 use Rattle.drafts.proofs.line_end.Goals as goal
 
 pub loop-at-init : goal.loop-at-init

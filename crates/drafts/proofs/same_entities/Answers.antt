@@ -1,6 +1,5 @@
 -- `drafts::same_entities` stays within the list and ends. The text before an entity grows by two numbers of the line a turn.
 use native.Mathlib.Omega.{arith}
-use Prim.Native.Nat.{◌-◌}
 use Rattle.drafts.proofs.same_entities.Goals as goal
 
 pub overflow_mul-n : goal.overflow_mul-n

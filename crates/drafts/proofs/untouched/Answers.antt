@@ -1,6 +1,5 @@
 -- `drafts::untouched` stays within the list and ends: each turn is a number further.
 use native.Mathlib.Omega.{arith}
-use Prim.Native.Nat.{◌-◌}
 use Rattle.drafts.proofs.untouched.Goals as goal
 
 pub loop-i-init : goal.loop-i-init

@@ -1,7 +1,6 @@
 -- `names::between` meets its contract. The invariant: what is stirred in from here on makes the number that the definition makes from the
 -- start. The measure is what is left of the name. Assumes nothing.
 use mathlib.Core.Path.{refl, sym, ◌∙◌}
-use Prim.Native.Nat.{◌-◌}
 use native.Mathlib.Omega.{arith}
 use Rattle.names.proofs.Numbers.{four_number, blocks_on, blocks_done}
 use Rattle.names.proofs.between.Goals as goal

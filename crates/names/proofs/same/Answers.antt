@@ -1,7 +1,6 @@
 -- `names::same` meets its contract. The invariant: the bytes before the next four are alike, so that unlike ones tell unlike names, and the
 -- last four decide. The measure is what is left of the names. Assumes nothing.
 use mathlib.Core.Path.{refl, sym}
-use Prim.Native.Nat.{◌-◌}
 use native.Mathlib.Omega.{arith}
 use Rattle.names.proofs.Chunks.{unlike, alike, decided}
 use Rattle.names.proofs.same.Goals as goal

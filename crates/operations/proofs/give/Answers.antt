@@ -1,6 +1,5 @@
 -- `operations::give` meets its contract. The invariant: so many kinds as turns were made are laid. Assumes nothing.
 use mathlib.Core.Path.{◌≡◌, refl}
-use Prim.Native.Nat.{◌-◌}
 use native.Mathlib.Omega.{arith}
 use Rattle.operations.specs.Taken.{laid}
 use Rattle.operations.proofs.Giving.{laid_next}

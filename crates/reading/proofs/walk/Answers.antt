@@ -1,7 +1,7 @@
 -- `reading::walk` meets its contract. The invariant is what holds behind every round. Assumes nothing.
 use mathlib.Core.Path.{refl, ◌∙◌}
 use native.Mathlib.Omega.{arith}
-use Rattle.reading.proofs.Rounds.{left, opened, short, ready, turned, less, answered}
+use Rattle.reading.proofs.Rounds.{opened, short, ready, turned, less, answered}
 use Rattle.reading.proofs.walk.Goals as goal
 
 pub loop-r-init : goal.loop-r-init

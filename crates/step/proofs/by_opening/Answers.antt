@@ -1,7 +1,6 @@
 -- `step::by_opening` tells the token that `step` gives for the draft opened at the place, and the place at which `step` leaves it. Assumes
 -- nothing.
-use mathlib.Core.Path.{◌∙◌}
-use Rattle.step.specs.Answer.{answered, answer_of}
+use Rattle.step.specs.Answer.{answer_of}
 use Rattle.step.proofs.by_opening.Goals as goal
 
 pub returns : goal.returns

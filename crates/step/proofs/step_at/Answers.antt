@@ -1,6 +1,5 @@
 -- `step::step_at` meets its contract: it tells the token that `token` finds, with the place reached behind it. Assumes nothing.
 use mathlib.Core.Path.{◌∙◌, ap}
-use Rattle.tokens.specs.Step.{onward}
 use Rattle.step.specs.Answer.{answered, answer_of}
 use Rattle.step.proofs.step_at.Goals as goal
 

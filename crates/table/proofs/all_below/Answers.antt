@@ -1,7 +1,6 @@
 -- `table::all_below` meets its contract. The invariant: what is left of the part is below the bound if and only if the whole part is.
 -- Assumes nothing.
 use mathlib.Core.Path.{refl, sym, ◌∙◌}
-use Prim.Native.Nat.{◌-◌}
 use native.Mathlib.Omega.{arith}
 use Rattle.table.proofs.Below.{below_none, below_next, below-not}
 use Rattle.table.proofs.all_below.Goals as goal

@@ -1,7 +1,6 @@
 -- `table::judge` meets its contract. The invariant: the last `k` rows are entered, and they pass. Assumes nothing.
 use mathlib.Core.Path.{◌≡◌, refl, sym, ◌∙◌}
-use mathlib.Core.Bool.{true, and-false, false≢true}
-use Prim.Native.Nat.{◌-◌}
+use mathlib.Core.Bool.{and-false, false≢true}
 use native.Mathlib.Omega.{arith}
 use native.Mathlib.Numerals.{add-one}
 use borrow.Author.Tests.{eq-eqb, ne_eqb, le-leb, lt-leb}

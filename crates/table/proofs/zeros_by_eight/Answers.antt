@@ -1,7 +1,6 @@
 -- `table::zeros_by_eight` meets its contract. The invariant: every byte that was passed is 0. The last eight begin among those. Assumes
 -- nothing.
 use mathlib.Core.Path.{sym, ◌∙◌}
-use mathlib.Core.Bool.{true}
 use Prim.Native.Nat.{◌-◌}
 use native.Mathlib.Omega.{arith}
 use borrow.Author.Tests.{eq-eqb, ne_eqb}

@@ -1,7 +1,6 @@
 -- `tokens::foreign_end` meets its contract: no character, LF from CR with LF, or a character that is not US-ASCII. Assumes nothing.
 use mathlib.Core.Path.{refl, sym, ◌∙◌, ap}
 use Prim.Native.Nat.{◌-◌}
-use native.Mathlib.Omega.{arith}
 use Rattle.chars.specs.Limits.{limits}
 use Rattle.tokens.specs.Sorts.{visible, white, exclusive, legal}
 use Rattle.tokens.specs.Tokens.{word}

@@ -1,6 +1,5 @@
 -- `tokens::foreign_start` meets its contract: no character, or one that is not US-ASCII, since LF would be whitespace. Assumes nothing.
 use mathlib.Core.Path.{sym, ◌∙◌, ap}
-use native.Mathlib.Omega.{arith}
 use Rattle.chars.specs.Limits.{limits}
 use mathlib.Core.Bool.{false≢true}
 use Rattle.tokens.specs.Sorts.{white}

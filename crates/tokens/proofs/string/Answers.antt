@@ -1,8 +1,7 @@
 -- `tokens::string` meets its contract. The invariant: what the definition answers from here is what it answered at the start
 -- of the data. Assumes nothing.
 use mathlib.Core.Path.{refl, sym, ◌∙◌, ap}
-use mathlib.Core.Bool.{false}
-use Prim.Native.Nat.{◌+◌, ◌-◌, ◌≤◌}
+use Prim.Native.Nat.{◌+◌, ◌≤◌}
 use native.Mathlib.Omega.{arith}
 use Rattle.chars.specs.Limits.{limits}
 use Rattle.chars.proofs.Extent.{encoded_size}

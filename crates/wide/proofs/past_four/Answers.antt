@@ -1,7 +1,6 @@
 -- `wide::past_four` meets its contract, as `past_three` does with three bytes. Assumes nothing.
 use mathlib.Core.Path.{sym, ◌∙◌}
 use mathlib.Core.Bool.{or-true}
-use Prim.Native.Nat.{◌-◌}
 use native.Mathlib.Omega.{arith}
 use borrow.Author.Rules.{rules}
 use Rattle.chars.specs.Rfc3629.{utf8_char}

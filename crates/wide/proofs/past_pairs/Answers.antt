@@ -1,6 +1,5 @@
 -- `wide::past_pairs` meets its contract: the loop's invariant is the contract's, and each turn passes one pair more. Assumes
 -- nothing.
-use Prim.Native.Nat.{◌-◌}
 use native.Mathlib.Omega.{arith}
 use borrow.Author.Rules.{rules}
 use Rattle.wide.specs.Wide.{none, more}

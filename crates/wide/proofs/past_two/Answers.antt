@@ -1,7 +1,6 @@
 -- `wide::past_two` meets its contract: the loop's invariant is the contract's, and each turn passes one character of two bytes more.
 -- Assumes nothing.
 use mathlib.Core.Path.{sym, ◌∙◌}
-use Prim.Native.Nat.{◌-◌}
 use native.Mathlib.Omega.{arith}
 use borrow.Author.Rules.{rules}
 use Rattle.wide.specs.Wide.{none, more}

@@ -1,6 +1,5 @@
 -- `wide::past_wide` meets its contract: the loop's invariant is the contract's, and each turn passes one character more. Assumes
 -- nothing.
-use Prim.Native.Nat.{◌-◌}
 use native.Mathlib.Omega.{arith}
 use borrow.Author.Rules.{rules}
 use Rattle.wide.specs.Wide.{none, more}

@@ -1,6 +1,5 @@
 -- `drafts::line::bytes` stays within line and buffer and ends: a byte has two digits at least, and its first lies within the line.
 use native.Mathlib.Omega.{arith}
-use Prim.Native.Nat.{◌-◌}
 use Rattle.drafts.proofs.line.bytes.Goals as goal
 
 pub loop-from-init : goal.loop-from-init

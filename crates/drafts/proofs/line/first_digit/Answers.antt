@@ -1,6 +1,5 @@
 -- `drafts::line::first_digit` stays within the line and ends: each turn is a byte further.
 use native.Mathlib.Omega.{arith}
-use Prim.Native.Nat.{◌-◌}
 use Rattle.drafts.proofs.line.first_digit.Goals as goal
 
 pub loop-at-init : goal.loop-at-init

@@ -1,6 +1,5 @@
 -- `drafts::line::number` is below its limit and ends: a digit is taken only while the number is small, and lies within the line.
 use native.Mathlib.Omega.{arith}
-use Prim.Native.Nat.{◌-◌}
 use Rattle.drafts.proofs.line.number.Goals as goal
 
 pub first_digit-at-requires : goal.first_digit-at-requires

@@ -1,6 +1,5 @@
 -- `drafts::line::put` stays within the buffer and ends: each turn is a byte further.
 use native.Mathlib.Omega.{arith}
-use Prim.Native.Nat.{◌-◌}
 use lib.ListN.{length-set}
 use Rattle.drafts.proofs.line.put.Goals as goal
 

@@ -1,7 +1,7 @@
 -- The invariant: the first `k` bytes of the part are the draft's, and behind them it is as it was lent.
 use mathlib.Core.Path.{◌≡◌}
 use mathlib.Core.List.{◌++◌}
-use Prim.Native.Nat.{◌+◌, ◌-◌, ◌≤◌}
+use Prim.Native.Nat.{◌-◌, ◌≤◌}
 use lib.ListN.{length, take, drop}
 use Rattle.holding.proofs.copy.long.Given as goal
 

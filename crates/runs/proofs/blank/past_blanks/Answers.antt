@@ -1,7 +1,6 @@
 -- `runs::blank::past_blanks` meets its contract. The invariant: what the definition answers from here is what it answered at the start.
 -- Assumes nothing.
 use mathlib.Core.Path.{sym, ◌∙◌}
-use Prim.Native.Nat.{◌-◌}
 use native.Mathlib.Omega.{arith}
 use Rattle.runs.proofs.Blanks.{blank_first, none_first, no_blanks}
 use Rattle.runs.proofs.blank.past_blanks.Goals as goal

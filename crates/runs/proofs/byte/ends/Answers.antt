@@ -1,10 +1,10 @@
 -- `runs::byte::ends` meets its contract: SP and LF are computed, and the other tests are those of the definition, of which one goes
 -- before: what goes on with a token is 3 by itself. Assumes nothing.
 use mathlib.Core.Path.{sym, ◌∙◌, ap}
-use mathlib.Core.Bool.{true, false, false≢true}
+use mathlib.Core.Bool.{false≢true}
 use borrow.Author.Tests.{eqb-true}
 use Rattle.chars.proofs.Cases.{either}
-use Rattle.tokens.specs.Sorts.{visible, exclusive, inclusive}
+use Rattle.tokens.specs.Sorts.{visible, exclusive}
 use Rattle.runs.specs.Bytes.{ends_of, goes_on}
 use Rattle.runs.proofs.byte.ends.Goals as goal
 

@@ -1,5 +1,4 @@
 -- `runs::eight::past_remark` meets its contract. The invariant: each byte from the start to here passes the test. Assumes nothing.
-use Prim.Native.Nat.{◌-◌}
 use native.Mathlib.Omega.{arith}
 use Rattle.runs.specs.Bytes.{remark}
 use Rattle.runs.proofs.Flags.{none_passed, more_passed, no_flag}

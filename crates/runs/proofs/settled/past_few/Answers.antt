@@ -1,6 +1,5 @@
 -- `runs::settled::past_few` meets its contract. The invariant: each byte from the start to here passes the test. Assumes nothing.
 use mathlib.Core.Path.{sym, ◌∙◌}
-use Prim.Native.Nat.{◌-◌}
 use native.Mathlib.Omega.{arith}
 use Rattle.runs.specs.Bytes.{settled}
 use Rattle.runs.proofs.Flags.{none_passed, one_passed}

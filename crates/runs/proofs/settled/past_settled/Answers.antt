@@ -1,5 +1,5 @@
 -- `runs::settled::past_settled` meets its contract. The invariant: each byte from the start to here passes the test. Assumes nothing.
-use Prim.Native.Nat.{◌+◌, ◌-◌}
+use Prim.Native.Nat.{◌+◌}
 use native.Mathlib.Omega.{arith}
 use Rattle.runs.specs.Bytes.{settled}
 use Rattle.runs.proofs.Flags.{none_passed, more_passed, both_passed, no_flag}

@@ -1,7 +1,7 @@
 -- `scan::comment::comment_end` meets its contract. The invariant: from here on a comment ends where it ends from the start on. What is
 -- passed over has no LF in it, and LF ends it, alone or behind CR. Assumes nothing.
 use mathlib.Core.Path.{refl}
-use Prim.Native.Nat.{◌+◌, ◌-◌, ◌<◌}
+use Prim.Native.Nat.{◌+◌, ◌<◌}
 use native.Mathlib.Omega.{arith}
 use lib.ListN.{get_or}
 use Rattle.chars.proofs.Streams.{plain}

@@ -1,6 +1,5 @@
 -- `scan::word::past_few` meets its contract. The invariant: each byte from the start to here passes the test. Assumes nothing.
 use mathlib.Core.Path.{sym, ◌∙◌}
-use Prim.Native.Nat.{◌-◌}
 use Rattle.runs.specs.Bytes.{goes_on}
 use Rattle.runs.proofs.Flags.{none_passed, one_passed}
 use Rattle.scan.proofs.word.past_few.Goals as goal

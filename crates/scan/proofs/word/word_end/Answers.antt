@@ -2,7 +2,6 @@
 -- and of the eight bytes from here on each one without a flag goes on with it; the limit is asked for where it ends. With each flag that
 -- is gone through the flags are a lesser number, and behind the last of them eight bytes less are left. Assumes nothing.
 use mathlib.Core.Path.{◌≡◌, sym, ◌∙◌}
-use mathlib.Core.Bool.{true}
 use Prim.Native.Nat.{ℕ, ◌+◌, ◌-◌, ◌≤◌}
 use native.Mathlib.Omega.{arith}
 use lib.ListN.{get_or}

@@ -1,7 +1,6 @@
 -- `tokens::run` meets its contract. The invariant: the place at which the definition ends the run from here is the one at which it ended it
 -- from the start. Assumes nothing.
 use mathlib.Core.Path.{refl, ◌∙◌}
-use Prim.Native.Nat.{◌-◌}
 use native.Mathlib.Omega.{arith}
 use Rattle.tokens.proofs.Passing.{onward, halted_below, halted_above, finished}
 use Rattle.tokens.proofs.byte.run.Goals as goal

@@ -1,7 +1,6 @@
 -- `tokens::space::blanks` meets its contract. The invariant: a run of blanks has ended here, and what the definition finds behind it is
 -- what it finds behind the start. CR with LF behind it is one more blank. Assumes nothing.
 use mathlib.Core.Path.{sym, ◌∙◌}
-use Prim.Native.Nat.{◌-◌}
 use native.Mathlib.Omega.{arith}
 use Rattle.tokens.specs.Runs.{past_blanks}
 use Rattle.tokens.proofs.Skipping.{blanked, joined, reaches, line_passed, blanks_end, no_blank, none_behind}

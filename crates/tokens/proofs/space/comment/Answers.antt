@@ -1,7 +1,6 @@
 -- `tokens::space::comment` meets its contract. The invariant: what the definition finds behind the comment from here is what it finds from
 -- the start. LF ends it, and so does what is no character. Assumes nothing.
 use mathlib.Core.Path.{refl, sym, ◌∙◌}
-use Prim.Native.Nat.{◌-◌}
 use native.Mathlib.Omega.{arith}
 use Rattle.tokens.proofs.Skipping.{reaches, comment_stops, comment_ends, comment_on}
 use Rattle.tokens.proofs.space.comment.Goals as goal

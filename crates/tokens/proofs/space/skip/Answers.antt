@@ -2,7 +2,6 @@
 -- comments is what it finds from the start. Assumes nothing.
 use mathlib.Core.Path.{sym, ◌∙◌, ap}
 use mathlib.Core.Bool.{false}
-use Prim.Native.Nat.{◌-◌}
 use native.Mathlib.Omega.{arith}
 use Rattle.tokens.specs.Runs.{past_blanks, past_all}
 use Rattle.tokens.proofs.Skipping.{blanks_first, blanks_twice, all_end, all_remark, all_stops}
