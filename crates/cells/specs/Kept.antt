@@ -1,6 +1,5 @@
 -- A kept list: the entities that stand in a list's numbers and a text buffer's bytes (docs/LAYOUT.md), and their check.
-use Rattle.std.specs.Prelude.{ℕ, zero, suc, ◌+◌, ◌-◌, ◌*◌, ◌<◌, ◌≤◌, ◌≡◌, Bool, true, ◌&&◌, List, [], ◌∷◌, ltb, eqb, length, take, drop}
-use Rattle.chars.specs.Choice.{if◌then◌else◌}
+use Rattle.std.specs.Prelude.{ℕ, zero, suc, ◌+◌, ◌-◌, ◌*◌, ◌<◌, ◌≤◌, ◌≡◌, Bool, true, ◌&&◌, List, [], ◌∷◌, ltb, eqb, length, take, drop, if◌then◌else◌}
 use Rattle.chars.specs.Limits.{Limits, limits}
 use Rattle.entities.specs.Entity.{Entity, kind_number}
 use Rattle.entities.specs.Judging.{kind_of}

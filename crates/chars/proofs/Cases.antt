@@ -1,15 +1,14 @@
 -- How a fact about a choice is shown: once for the test that passes, and once for the test that fails.
 use mathlib.Core.Path.{◌≡◌, refl}
-use mathlib.Core.Bool.{Bool, true, false, ◌&&◌, false≢true}
+use mathlib.Core.Bool.{Bool, true, false, cond, ◌&&◌, false≢true}
 use Prim.Native.Nat.{ℕ, ◌<◌, ◌≤◌}
 use lib.Dec.{ltb}
 use borrow.Author.Tests.{ltb-true, ltb-false}
-use Rattle.chars.specs.Choice.{if◌then◌else◌}
 
 -- a choice that is `z`: either way tells its test, and that its side is `z`
 pub by_test {ℓ κ} :
     {A : Type ℓ} {P : Type κ} (t : Bool) {x y z : A}
-    → (t ≡ true → x ≡ z → P) → (t ≡ false → y ≡ z → P) → (if t then x else y) ≡ z → P
+    → (t ≡ true → x ≡ z → P) → (t ≡ false → y ≡ z → P) → cond t x y ≡ z → P
 by_test true yes_way no_way e = yes_way refl e
 by_test false yes_way no_way e = no_way refl e
 

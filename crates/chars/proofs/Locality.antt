@@ -10,7 +10,8 @@ use lib.Dec.{ltb, eqb}
 use lib.ListN.{get_or, take, drop}
 use lib.Seq.{take-nil, take-take, get_or-take}
 use borrow.Author.Tests.{ltb-true, ltb-false}
-use Rattle.chars.specs.Choice.{if◌then◌else◌, within}
+use Rattle.std.specs.Prelude.{if◌then◌else◌}
+use Rattle.chars.specs.Choice.{within}
 use Rattle.chars.specs.Character.{continued, sequence, lowest, highest, high, low}
 use Rattle.chars.specs.Character.{paired, judged, carriage, character, character_at}
 use Rattle.chars.specs.declared.Sequence.{Sequence}

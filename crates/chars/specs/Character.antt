@@ -1,6 +1,6 @@
 -- One character, from the bytes at a place on (004, section 2; document 01, "From bytes to characters").
-use Rattle.std.specs.Prelude.{ℕ, zero, suc, ◌+◌, ◌-◌, ◌*◌, ◌/◌, ◌%◌, Bool, List, [], ◌∷◌, ◌++◌, leb, ltb, eqb, length, get_or, drop, replicate}
-use Rattle.chars.specs.Choice.{if◌then◌else◌, within}
+use Rattle.std.specs.Prelude.{ℕ, zero, suc, ◌+◌, ◌-◌, ◌*◌, ◌/◌, ◌%◌, Bool, List, [], ◌∷◌, ◌++◌, leb, ltb, eqb, length, get_or, drop, replicate, if◌then◌else◌}
+use Rattle.chars.specs.Choice.{within}
 use Rattle.chars.specs.declared.Character.{Character}
 use Rattle.chars.specs.declared.Character.TheVariants.{Clean, Refused, End}
 use Rattle.chars.specs.declared.Sequence.{Sequence}

@@ -3,11 +3,6 @@ use Rattle.std.specs.Prelude.{ℕ, Bool, true, false, ◌&&◌, ◌||◌, List, 
 use Prim.Native.Char.{code}
 use Prim.Native.String.{String}
 
-infix 10 if◌then◌else◌
-abbrev pub if◌then◌else◌ {ℓ} : {A : Type ℓ} → Bool → A → A → A
-if◌then◌else◌ true a b = a
-if◌then◌else◌ false a b = b
-
 -- `low ≤ n ≤ high`
 abbrev pub within : (low high n : ℕ) → Bool
 within low high n = leb low n && leb n high

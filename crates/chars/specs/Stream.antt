@@ -1,6 +1,6 @@
 -- A draft's characters as a stream (004, section 2; document 01, "From bytes to characters").
-use Rattle.std.specs.Prelude.{ℕ, zero, suc, ◌-◌, min, List, [], ◌∷◌, ◌++◌, leb, length, take, drop}
-use Rattle.chars.specs.Choice.{if◌then◌else◌, same}
+use Rattle.std.specs.Prelude.{ℕ, zero, suc, ◌-◌, min, List, [], ◌∷◌, ◌++◌, leb, length, take, drop, if◌then◌else◌}
+use Rattle.chars.specs.Choice.{same}
 use Rattle.chars.specs.Character.{character, encoded}
 use Rattle.chars.specs.declared.Character.{Character}
 use Rattle.chars.specs.declared.Character.TheVariants.{Clean, Refused, End}

@@ -5,7 +5,7 @@ use mathlib.Core.List.{List}
 use mathlib.Core.Option.{none, some}
 use Prim.Native.Nat.{ℕ}
 use lib.Dec.{eqb}
-use Rattle.chars.specs.Choice.{if◌then◌else◌}
+use Rattle.std.specs.Prelude.{if◌then◌else◌}
 use Rattle.chars.specs.Limits.{Limits, limits}
 use Rattle.chars.proofs.Cases.{either}
 use Rattle.reading.specs.Reading.{read_with, room_of, answered, Reading, reading}

@@ -1,8 +1,7 @@
 -- Checking: the call that judges the table, reads, and then checks what was read (document 01, "Order").
-use Rattle.std.specs.Prelude.{ℕ, true, false, List, eqb}
+use Rattle.std.specs.Prelude.{ℕ, true, false, List, eqb, if◌then◌else◌}
 use Rattle.std.proofs.Math.Option.{none, some}
 use Rattle.chars.specs.Limits.{Limits}
-use Rattle.chars.specs.Choice.{if◌then◌else◌}
 use Rattle.entities.specs.Making.{Room}
 use Rattle.reading.specs.Reading.{Read, Reading, read_with, room_of, answered}
 use Rattle.reading.specs.declared.Answer.{Answer}

@@ -2,8 +2,7 @@
 
 #![tactic(auto)]
 
-ghost use Rattle.std.specs.Prelude.{◌≡◌, true, eqb};
-ghost use Rattle.chars.specs.Choice.{if◌then◌else◌};
+ghost use Rattle.std.specs.Prelude.{◌≡◌, true, eqb, if◌then◌else◌};
 ghost use Rattle.chars.specs.Limits.{limits};
 ghost use Rattle.table.specs.Entered.{sound, row_count, operations_of, Entered};
 ghost use Rattle.cells.specs.Kept.{Held, check_kept, ended_of};

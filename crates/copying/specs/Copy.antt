@@ -1,6 +1,5 @@
 -- What the copier of one string, or of one word, answers, and what the part that it is lent holds afterwards.
-use Rattle.std.specs.Prelude.{ℕ, List, ◌++◌, ltb, length, drop}
-use Rattle.chars.specs.Choice.{if◌then◌else◌}
+use Rattle.std.specs.Prelude.{ℕ, List, ◌++◌, ltb, length, drop, if◌then◌else◌}
 use Rattle.chars.specs.Stream.{stream_at, clean}
 use Rattle.copying.specs.declared.Copied.{Copied}
 use Rattle.copying.specs.declared.Copied.TheVariants.{Whole, TooSmall}

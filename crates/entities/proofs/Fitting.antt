@@ -8,7 +8,7 @@ use native.Mathlib.Omega.{arith}
 use lib.Dec.{eqb, ltb}
 use lib.ListN.{length, take-append-drop}
 use borrow.Author.Tests.{eq-eqb, ne_eqb, eqb-true, eqb-false, lt-ltb, le-ltb, ltb-true, ltb-false}
-use Rattle.chars.specs.Choice.{if◌then◌else◌}
+use Rattle.std.specs.Prelude.{if◌then◌else◌}
 use Rattle.chars.proofs.Cases.{either}
 use Rattle.entities.specs.Entity.{Entity, bare, size, sizes, texts}
 use Rattle.entities.specs.Making.{Reader, Room, Handled, stops, holds, makes, fitted, shortage}

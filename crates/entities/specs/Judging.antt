@@ -1,7 +1,7 @@
 -- What the code answers about one token, and what it means in the words of Making. Nothing here says more of the format than Making does.
-use Rattle.std.specs.Prelude.{ℕ, ◌+◌, ◌-◌, ◌*◌, Bool, ◌||◌, eqb, ltb, length, take, drop}
+use Rattle.std.specs.Prelude.{ℕ, ◌+◌, ◌-◌, ◌*◌, Bool, ◌||◌, eqb, ltb, length, take, drop, if◌then◌else◌}
 use mathlib.Core.List.{List, [], ◌∷◌, ◌++◌, tail}
-use Rattle.chars.specs.Choice.{if◌then◌else◌, within, among, ascii}
+use Rattle.chars.specs.Choice.{within, among, ascii}
 use Rattle.chars.specs.Stream.{stream_at, clean}
 use Rattle.entities.specs.Entity.{Kind, Entity, bare, sizes, texts, rows}
 use Rattle.entities.specs.Entity.{begin-metacommand, end-metacommand, metacommand-token, metacommand-quoted, metacommand-curly}

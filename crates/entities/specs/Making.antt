@@ -1,8 +1,8 @@
 -- From tokens to entities, a token at a time (004, section 5; document 01, "From tokens to entities" and "Order").
-use Rattle.std.specs.Prelude.{ℕ, zero, suc, ◌-◌, Bool, true, false, not, ◌&&◌, ◌||◌, ltb, eqb, length, get_or}
+use Rattle.std.specs.Prelude.{ℕ, zero, suc, ◌-◌, Bool, true, false, not, ◌&&◌, ◌||◌, ltb, eqb, length, get_or, if◌then◌else◌}
 use mathlib.Core.List.{List, [], ◌∷◌, ◌++◌, tail}
 use Rattle.chars.specs.Limits.{Limits}
-use Rattle.chars.specs.Choice.{if◌then◌else◌, within, among, ascii}
+use Rattle.chars.specs.Choice.{within, among, ascii}
 use Rattle.tokens.specs.Tokens.{Sort, simple, quoted, curly}
 use Rattle.entities.specs.Entity.{Kind, Entity, bare, size, sizes}
 use Rattle.entities.specs.Entity.{begin-metacommand, end-metacommand, metacommand-token, metacommand-quoted, metacommand-curly}

@@ -1,7 +1,6 @@
 -- What the code keeps between tokens, and what one token does to it, in the words of Making. Nothing here says more of the format than
 -- Making does.
-use Rattle.std.specs.Prelude.{ℕ, zero, suc, ◌+◌, ◌-◌, ◌*◌, ◌<◌, ◌≤◌, ◌/◌, ◌≡◌, Bool, true, false, not, ◌&&◌, ◌||◌, List, [], ◌∷◌, leb, eqb, length, get_or, take, drop}
-use Rattle.chars.specs.Choice.{if◌then◌else◌}
+use Rattle.std.specs.Prelude.{ℕ, zero, suc, ◌+◌, ◌-◌, ◌*◌, ◌<◌, ◌≤◌, ◌/◌, ◌≡◌, Bool, true, false, not, ◌&&◌, ◌||◌, List, [], ◌∷◌, leb, eqb, length, get_or, take, drop, if◌then◌else◌}
 use Rattle.chars.specs.Limits.{limits}
 use Rattle.chars.specs.Stream.{stream_at, clean}
 use Rattle.tokens.specs.Tokens.{simple, quoted, curly}

@@ -2,8 +2,8 @@
 -- array has a number for each of 512 buckets, the entry entered last there (counted from 1; 0 for none), and behind these five for each
 -- entry: where the name's bytes begin among the bytes that hold it, how many they are, the entry entered before it in its bucket, and the
 -- two numbers of its mark.
-use Rattle.std.specs.Prelude.{ℕ, zero, suc, ◌+◌, ◌*◌, ◌<◌, ◌≤◌, ◌≡◌, List, eqb, length, get_or, take, drop, set}
-use Rattle.chars.specs.Choice.{if◌then◌else◌, same}
+use Rattle.std.specs.Prelude.{ℕ, zero, suc, ◌+◌, ◌*◌, ◌<◌, ◌≤◌, ◌≡◌, List, eqb, length, get_or, take, drop, set, if◌then◌else◌}
+use Rattle.chars.specs.Choice.{same}
 use Rattle.names.specs.Marks.{first_of, last_of, bucket_of}
 use Rattle.names.specs.declared.Mark.{Mark}
 

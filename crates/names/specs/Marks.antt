@@ -1,7 +1,6 @@
 -- What a name is found by: two numbers made of its bytes, and a bucket. Any function of the bytes would serve; this one looks at each of
 -- them, and up to eight bytes can be told from the two numbers and their length.
-use Rattle.std.specs.Prelude.{ℕ, ◌+◌, ◌-◌, ◌*◌, ◌/◌, ◌%◌, List, [], ◌∷◌, ltb, eqb, length, get_or, take, drop}
-use Rattle.chars.specs.Choice.{if◌then◌else◌}
+use Rattle.std.specs.Prelude.{ℕ, ◌+◌, ◌-◌, ◌*◌, ◌/◌, ◌%◌, List, [], ◌∷◌, ltb, eqb, length, get_or, take, drop, if◌then◌else◌}
 use Rattle.names.specs.declared.Mark.{Mark}
 
 -- bytes as one number, the first of them lowest

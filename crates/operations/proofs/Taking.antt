@@ -10,7 +10,7 @@ use lib.ListN.{length, get_or, take, drop}
 use lib.Seq.{drop-cons}
 use borrow.Author.Tests.{lt-ltb, le-ltb, eq-eqb, ne_eqb}
 use Rattle.chars.specs.Limits.{limits}
-use Rattle.chars.specs.Choice.{if◌then◌else◌}
+use Rattle.std.specs.Prelude.{if◌then◌else◌}
 use Rattle.table.specs.Table.{Item, one, array_of, item}
 use Rattle.rules.specs.Cells.{leaves, refuses, all_of, take_array, take_item, take_items}
 use Rattle.rules.specs.Kinds.{Checked, wanted_of, kinds}

@@ -9,7 +9,8 @@ use lib.Dec.{ltb, eqb}
 use lib.ListN.{length, get_or}
 use borrow.Author.Tests.{ltb-true, ltb-false, lt-ltb, eqb-false}
 use Rattle.chars.specs.Limits.{Limits}
-use Rattle.chars.specs.Choice.{if◌then◌else◌, within, among, ascii}
+use Rattle.std.specs.Prelude.{if◌then◌else◌}
+use Rattle.chars.specs.Choice.{within, among, ascii}
 use Rattle.chars.specs.Stream.{start, stream_at}
 use Rattle.chars.proofs.Cases.{either, both}
 use Rattle.tokens.specs.Tokens.{Sort, simple, quoted, curly, Tokens, token, last, refused, tokens, between}

@@ -9,7 +9,8 @@ use lib.Dec.{ltb, eqb}
 use lib.ListN.{length, get_or}
 use borrow.Author.Tests.{eqb-false}
 use Rattle.chars.specs.Limits.{Limits}
-use Rattle.chars.specs.Choice.{if◌then◌else◌, within, among, ascii}
+use Rattle.std.specs.Prelude.{if◌then◌else◌}
+use Rattle.chars.specs.Choice.{within, among, ascii}
 use Rattle.chars.proofs.Cases.{either}
 use Rattle.tokens.specs.Tokens.{Sort, simple, quoted, curly, Whole}
 use Rattle.entities.specs.Entity.{Entity, size, bare, begin_group}

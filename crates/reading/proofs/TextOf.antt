@@ -7,7 +7,8 @@ use Prim.Native.Nat.{ℕ, zero, suc}
 use lib.Dec.{ltb, eqb}
 use lib.ListN.{length, get_or}
 use Rattle.chars.specs.Limits.{Limits}
-use Rattle.chars.specs.Choice.{if◌then◌else◌, within, among, ascii}
+use Rattle.std.specs.Prelude.{if◌then◌else◌}
+use Rattle.chars.specs.Choice.{within, among, ascii}
 use Rattle.chars.proofs.Cases.{either}
 use Rattle.tokens.specs.Tokens.{Sort, simple, quoted, curly, Tokens, token, last, refused}
 use Rattle.entities.specs.Entity.{Entity, bare, begin_group}

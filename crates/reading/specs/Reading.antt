@@ -1,7 +1,6 @@
 -- Reading: from a draft and two lent buffers to one answer and the buffers' later contents (document 01).
-use Rattle.std.specs.Prelude.{ℕ, ◌*◌, ◌/◌, false, List, [], ◌++◌, ltb, length, drop}
+use Rattle.std.specs.Prelude.{ℕ, ◌*◌, ◌/◌, false, List, [], ◌++◌, ltb, length, drop, if◌then◌else◌}
 use Rattle.chars.specs.Limits.{Limits}
-use Rattle.chars.specs.Choice.{if◌then◌else◌}
 use Rattle.chars.specs.Stream.{start, stream_at, clean}
 use Rattle.tokens.specs.Tokens.{Whole, Tokens, token, last, refused, tokens, between}
 use Rattle.entities.specs.Entity.{Entity, sizes, texts, rows}

@@ -1,6 +1,5 @@
 -- What one round of reading does to what is held and to what is still to be read. Nothing here says more of the format than Reading does.
-use Rattle.std.specs.Prelude.{ℕ, ◌+◌, ◌<◌, ◌≡◌, List, [], eqb, ltb, length}
-use Rattle.chars.specs.Choice.{if◌then◌else◌}
+use Rattle.std.specs.Prelude.{ℕ, ◌+◌, ◌<◌, ◌≡◌, List, [], eqb, ltb, length, if◌then◌else◌}
 use Rattle.chars.specs.Limits.{limits}
 use Rattle.chars.specs.Stream.{start, stream_at}
 use Rattle.tokens.specs.Tokens.{tokens, between}

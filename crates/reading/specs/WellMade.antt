@@ -1,8 +1,8 @@
 -- Entities that are well made, as those of a reading that succeeds are: each metacommand is closed and holds kinds 3 to 5 only, groups are
 -- balanced and at most so many are open at a time, and the last entity and no other is an end.
-use Rattle.std.specs.Prelude.{ℕ, suc, ◌-◌, Bool, true, false, ◌&&◌, List, [], ◌∷◌, ltb, eqb, length}
+use Rattle.std.specs.Prelude.{ℕ, suc, ◌-◌, Bool, true, false, ◌&&◌, List, [], ◌∷◌, ltb, eqb, length, if◌then◌else◌}
 use Rattle.chars.specs.Limits.{Limits}
-use Rattle.chars.specs.Choice.{if◌then◌else◌, within}
+use Rattle.chars.specs.Choice.{within}
 use Rattle.entities.specs.Entity.{Entity, kind_number}
 
 -- entities inside a metacommand or not, with `depth` groups open

@@ -11,7 +11,8 @@ use lib.Dec.{leb, ltb, eqb}
 use lib.ListN.{length, take}
 use borrow.Author.Tests.{leb-true}
 use Rattle.chars.specs.Limits.{Limits}
-use Rattle.chars.specs.Choice.{if◌then◌else◌, within}
+use Rattle.std.specs.Prelude.{if◌then◌else◌}
+use Rattle.chars.specs.Choice.{within}
 use Rattle.chars.proofs.Cases.{both}
 use Rattle.entities.specs.Entity.{Entity}
 use Rattle.table.specs.Table.{Item, one, array_of, Operation, find}

@@ -9,7 +9,8 @@ use Prim.Native.Nat.{ℕ, ◌/◌, ◌%◌}
 use lib.Dec.{leb, eqb}
 use lib.ListN.{length}
 use Rattle.chars.specs.Limits.{Limits}
-use Rattle.chars.specs.Choice.{if◌then◌else◌, same}
+use Rattle.std.specs.Prelude.{if◌then◌else◌}
+use Rattle.chars.specs.Choice.{same}
 use Rattle.chars.proofs.Cases.{either, both}
 use Rattle.names.proofs.Equal.{equal_same, same_equal}
 use Rattle.table.specs.Table.{Operation, width, operation_of, rows_of, rows_sound, find, found, distinct, operations}

@@ -9,7 +9,8 @@ use Prim.Native.Nat.{ℕ, zero, suc}
 use lib.Dec.{leb, ltb, eqb}
 use lib.ListN.{length, take, drop}
 use Rattle.chars.specs.Limits.{Limits}
-use Rattle.chars.specs.Choice.{if◌then◌else◌, same}
+use Rattle.std.specs.Prelude.{if◌then◌else◌}
+use Rattle.chars.specs.Choice.{same}
 use Rattle.chars.proofs.Cases.{either}
 use Rattle.entities.specs.Entity.{Kind, Entity}
 use Rattle.entities.specs.Entity.{begin-metacommand, end-metacommand, metacommand-token, metacommand-quoted, metacommand-curly}

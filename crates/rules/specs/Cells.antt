@@ -1,9 +1,9 @@
 -- The rules of cells, groups, names and operations, once for the check and for a run (document 01, "Cells and operations" and
 -- "Order"). A run "keeps the same rules but for 24, 29 and 30", so what a cell is and which rules hold is a parameter here.
-use Rattle.std.specs.Prelude.{ℕ, suc, ◌+◌, Bool, true, false, not, ◌&&◌, List, [], ◌∷◌, leb, ltb, eqb, length, take, drop}
+use Rattle.std.specs.Prelude.{ℕ, suc, ◌+◌, Bool, true, false, not, ◌&&◌, List, [], ◌∷◌, leb, ltb, eqb, length, take, drop, if◌then◌else◌}
 use Rattle.std.proofs.Math.Option.{Option, none, some}
 use Rattle.chars.specs.Limits.{Limits}
-use Rattle.chars.specs.Choice.{if◌then◌else◌, same}
+use Rattle.chars.specs.Choice.{same}
 use Rattle.entities.specs.Entity.{Entity}
 use Rattle.entities.specs.Entity.{begin-metacommand, end-metacommand, metacommand-token, metacommand-quoted, metacommand-curly}
 use Rattle.entities.specs.Entity.{begin_group, end-group, array, number, quoted-string, curly-string}

@@ -13,7 +13,8 @@ use lib.Seq.{drop-cons}
 use mir.Val.{has_key}
 use types.Run.{OneOf, hit, miss}
 use borrow.Author.Tests.{not-true, ne_eqb, le-leb}
-use Rattle.chars.specs.Choice.{if◌then◌else◌, within, among}
+use Rattle.std.specs.Prelude.{if◌then◌else◌}
+use Rattle.chars.specs.Choice.{within, among}
 use Rattle.chars.specs.Character.{character, character_at, carriage}
 use Rattle.chars.specs.declared.Character.TheVariants.{Clean}
 use Rattle.chars.proofs.Characters.{refused}

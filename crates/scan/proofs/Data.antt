@@ -10,7 +10,8 @@ use native.Mathlib.Nat.{add-zero}
 use lib.Dec.{eqb}
 use lib.ListN.{length, get_or}
 use borrow.Author.Tests.{ne_eqb, eqb-false, not-true}
-use Rattle.chars.specs.Choice.{if◌then◌else◌, within}
+use Rattle.std.specs.Prelude.{if◌then◌else◌}
+use Rattle.chars.specs.Choice.{within}
 use Rattle.chars.specs.Limits.{limits}
 use Rattle.chars.specs.Character.{character_at, encoded}
 use Rattle.chars.specs.Stream.{stream_at}

@@ -8,7 +8,7 @@ use native.Mathlib.Omega.{arith}
 use lib.Dec.{eqb}
 use lib.ListN.{length, get_or, get_or-eq_default}
 use borrow.Author.Tests.{eqb-true, eqb-false, eq-eqb}
-use Rattle.chars.specs.Choice.{if◌then◌else◌}
+use Rattle.std.specs.Prelude.{if◌then◌else◌}
 use Rattle.chars.specs.Limits.{limits}
 use Rattle.chars.specs.Character.{character_at}
 use Rattle.chars.specs.Stream.{stream_at}

@@ -1,6 +1,5 @@
 // String data (Shastina Specification, section 3.3), in one loop: where it is closed, and how many of its bytes cleaning takes away.
-ghost use Rattle.std.specs.Prelude.{◌≡◌, Bool, ℕ, ◌+◌, ◌-◌, ◌<◌, ◌≤◌, length, get_or};
-ghost use Rattle.chars.specs.Choice.{if◌then◌else◌};
+ghost use Rattle.std.specs.Prelude.{◌≡◌, Bool, ℕ, ◌+◌, ◌-◌, ◌<◌, ◌≤◌, length, get_or, if◌then◌else◌};
 ghost use Rattle.scan.specs.Data.{Even, Goes};
 ghost use Rattle.scan.specs.Found.{Closed};
 

@@ -1,8 +1,7 @@
 -- How the arrays of the code stand for a state of the check. A number of `cells` is a cell: a kind, 0 to 15, or 16 more than a count. The
 -- first `base` cells are hidden and the next `seen` in sight, the top last; `bases` has for each open group what `base` was outside of it.
 -- Names stand in an index (names/Index) over the text buffer, and `whats` has the kind of each, with 16 more for a constant.
-use Rattle.std.specs.Prelude.{ℕ, zero, suc, ◌+◌, ◌-◌, ◌%◌, ◌≤◌, ◌≡◌, List, [], ◌∷◌, leb, ltb, length, get_or}
-use Rattle.chars.specs.Choice.{if◌then◌else◌}
+use Rattle.std.specs.Prelude.{ℕ, zero, suc, ◌+◌, ◌-◌, ◌%◌, ◌≤◌, ◌≡◌, List, [], ◌∷◌, leb, ltb, length, get_or, if◌then◌else◌}
 use Rattle.names.specs.Index.{Indexed, key_of, position}
 use Rattle.rules.specs.Cells.{Name, State, Did, goes, stops}
 use Rattle.rules.specs.Kinds.{Checked, of, count}

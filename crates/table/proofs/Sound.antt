@@ -10,7 +10,7 @@ use lib.Dec.{leb, ltb, eqb}
 use lib.ListN.{length, get_or, take, drop, length-take, length-drop}
 use lib.Seq.{get_or-take, get_or-drop, drop-drop}
 use Rattle.chars.specs.Limits.{Limits}
-use Rattle.chars.specs.Choice.{if◌then◌else◌}
+use Rattle.std.specs.Prelude.{if◌then◌else◌}
 use Rattle.chars.proofs.Cases.{both, either}
 use Rattle.table.specs.Table.{field, field_sound, row_sound, rows_of, rows_sound, distinct, operations}
 use Rattle.table.specs.Entered.{sound, row_count, row_place, row_from, operations_of}

@@ -1,8 +1,8 @@
 -- The table of operations: from bytes to operations, or refusal 20 (document 01, "Cells and operations"; docs/LAYOUT.md).
-use Rattle.std.specs.Prelude.{ℕ, zero, suc, ◌+◌, ◌-◌, ◌/◌, ◌%◌, Bool, true, false, not, ◌&&◌, List, [], ◌∷◌, map, leb, ltb, eqb, length, get_or, take, drop}
+use Rattle.std.specs.Prelude.{ℕ, zero, suc, ◌+◌, ◌-◌, ◌/◌, ◌%◌, Bool, true, false, not, ◌&&◌, List, [], ◌∷◌, map, leb, ltb, eqb, length, get_or, take, drop, if◌then◌else◌}
 use Rattle.std.proofs.Math.Option.{Option, none, some}
 use Rattle.chars.specs.Limits.{Limits}
-use Rattle.chars.specs.Choice.{if◌then◌else◌, same}
+use Rattle.chars.specs.Choice.{same}
 
 -- a taken item: a cell of a kind, or "array of" a kind, which is a count and as many cells of that kind
 pub data Item : Type 0 where

@@ -9,7 +9,8 @@ use lib.Dec.{ltb}
 use lib.ListN.{length, take, drop, length-append, length-take, take-append-drop}
 use borrow.Author.Tests.{lt-ltb, le-ltb}
 use Rattle.chars.specs.Stream.{stream_at, clean}
-use Rattle.chars.specs.Choice.{if◌then◌else◌, within}
+use Rattle.std.specs.Prelude.{if◌then◌else◌}
+use Rattle.chars.specs.Choice.{within}
 use Rattle.chars.proofs.Cases.{either}
 use Rattle.tokens.proofs.Clean.{clean_zero}
 use Rattle.entities.specs.Entity.{Entity, size, sizes}

@@ -9,7 +9,8 @@ use native.Mathlib.Omega.{arith}
 use lib.Dec.{eqb, leb}
 use lib.ListN.{length, get_or}
 use borrow.Author.Tests.{ne_eqb, eqb-true, eqb-false, lt-ltb, not-true}
-use Rattle.chars.specs.Choice.{if◌then◌else◌, within, among, ascii}
+use Rattle.std.specs.Prelude.{if◌then◌else◌}
+use Rattle.chars.specs.Choice.{within, among, ascii}
 use Rattle.chars.specs.Limits.{limits}
 use Rattle.chars.proofs.Cases.{either}
 use Rattle.chars.specs.Stream.{stream_at, clean}

@@ -9,7 +9,7 @@ use native.Mathlib.Omega.{arith}
 use lib.Dec.{eqb, ltb}
 use lib.ListN.{length, get_or, take, drop}
 use borrow.Author.Tests.{ltb-true, ltb-false, not-false}
-use Rattle.chars.specs.Choice.{if◌then◌else◌}
+use Rattle.std.specs.Prelude.{if◌then◌else◌}
 use Rattle.chars.specs.Limits.{Limits}
 use Rattle.chars.specs.Character.{character_at, encoded}
 use Rattle.chars.specs.Stream.{next, stream_at}

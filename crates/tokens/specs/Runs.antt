@@ -1,6 +1,6 @@
 -- What the loops of the code answer. Nothing here says more of the format than Tokens does: laws in proofs/ tie each of these to it.
-use Rattle.std.specs.Prelude.{ℕ, zero, suc, ◌+◌, ◌/◌, ◌%◌, ◌≤◌, ◌≡◌, Bool, true, false, not, ◌&&◌, ◌||◌, List, [], ◌∷◌, leb, eqb, take, drop}
-use Rattle.chars.specs.Choice.{if◌then◌else◌, within}
+use Rattle.std.specs.Prelude.{ℕ, zero, suc, ◌+◌, ◌/◌, ◌%◌, ◌≤◌, ◌≡◌, Bool, true, false, not, ◌&&◌, ◌||◌, List, [], ◌∷◌, leb, eqb, take, drop, if◌then◌else◌}
+use Rattle.chars.specs.Choice.{within}
 use Rattle.chars.specs.Character.{told}
 use Rattle.chars.specs.Rfc3629.{utf8_char}
 use Rattle.chars.specs.Stream.{Stream, next, stop}

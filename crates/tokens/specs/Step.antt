@@ -1,7 +1,6 @@
 -- Step: one token after another from an opened draft (document 01, "The calls").
-use Rattle.std.specs.Prelude.{ℕ, zero, suc, List, ltb, length}
+use Rattle.std.specs.Prelude.{ℕ, zero, suc, List, ltb, length, if◌then◌else◌}
 use Rattle.chars.specs.Limits.{Limits}
-use Rattle.chars.specs.Choice.{if◌then◌else◌}
 use Rattle.chars.specs.Stream.{start}
 use Rattle.tokens.specs.Tokens.{token_at}
 use Rattle.tokens.specs.declared.Token.{Token}

@@ -1,7 +1,6 @@
 -- Tail: whether only whitespace follows a place of a draft (004, section 5.8; document 01, "The calls" and "Order").
-use Rattle.std.specs.Prelude.{ℕ, List, ltb, eqb, length}
+use Rattle.std.specs.Prelude.{ℕ, List, ltb, eqb, length, if◌then◌else◌}
 use Rattle.chars.specs.Limits.{Limits}
-use Rattle.chars.specs.Choice.{if◌then◌else◌}
 use Rattle.chars.specs.Stream.{Stream, next, stop, stream_at}
 use Rattle.tokens.specs.Sorts.{white}
 

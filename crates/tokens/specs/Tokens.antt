@@ -1,7 +1,6 @@
 -- From characters to tokens, a character at a time (004, sections 3.2 and 3.3; document 01, "From characters to tokens").
-use Rattle.std.specs.Prelude.{ℕ, suc, ◌+◌, ◌-◌, Bool, false, not, ◌&&◌, List, ltb, eqb, length}
+use Rattle.std.specs.Prelude.{ℕ, suc, ◌+◌, ◌-◌, Bool, false, not, ◌&&◌, List, ltb, eqb, length, if◌then◌else◌}
 use Rattle.chars.specs.Limits.{Limits}
-use Rattle.chars.specs.Choice.{if◌then◌else◌}
 use Rattle.chars.specs.Character.{encoded}
 use Rattle.chars.specs.Stream.{Stream, next, stop, stream_at}
 use Rattle.tokens.specs.Sorts.{visible, white, atomic, exclusive, inclusive, legal}

@@ -1,7 +1,6 @@
 // What a character of string data does (Shastina Specification, section 3): whether it closes the string, and the nesting level and
 // backslashes behind it.
-ghost use Rattle.std.specs.Prelude.{◌≡◌, not, ◌&&◌, eqb, ◌≤◌};
-ghost use Rattle.chars.specs.Choice.{if◌then◌else◌};
+ghost use Rattle.std.specs.Prelude.{◌≡◌, not, ◌&&◌, eqb, ◌≤◌, if◌then◌else◌};
 ghost use Rattle.tokens.specs.Tokens.{nested, down};
 ghost use Rattle.tokens.specs.Runs.{sort_of};
 
