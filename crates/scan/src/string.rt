@@ -79,14 +79,17 @@ fn above(draft: &[u8], i: usize) -> Reach
     past_wide(&draft[..], i)
 }
 
-// Behind any other byte that is no mark, of which CR LF is one character; `i` itself says nothing.
+// Behind any other character that is no mark, of which CR LF is one; `i` itself says nothing.
 fn other(draft: &[u8], i: usize) -> Reach
-    requires { (i < length draft.now) × (get_or draft.now i 0 < 0x80) }
+    requires { i < length draft.now }
     ensures { (curly : Bool) (level : ℕ)
         → Even curly (get_or draft.now i 0)
         → Goes draft.now curly i level result.after level result.less }
 {
     let b = draft[i];
+    if 0x7F < b {
+        return above(&draft[..], i);
+    }
     if b == 0 {
         return Reach { after: i, less: 0 };
     }

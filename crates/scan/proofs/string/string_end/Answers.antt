@@ -155,7 +155,7 @@ loop-from-preserved-then-b-eq92 c =
     )
 
 pub other-reach-requires : goal.other-reach-requires
-other-reach-requires c = (c.if-draft-i.false, omega (arith, c.if-b-gt127.false))
+other-reach-requires c = c.if-draft-i.false
 
 -- what is known behind anything else
 other_far :
