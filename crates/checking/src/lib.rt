@@ -70,10 +70,10 @@ pub fn checked(
 // after 21 to 30 the buffers hold the whole reading.
 pub fn check(draft: &[u8], list: &mut [u32], text: &mut [u8], table: &[u8]) -> Answer
     ensures value { result ≡ (checking_of limits draft.now list.old text.old table.now).answer }
-    ensures list_after { list.new ≡ (checking_of limits draft.now list.old text.old table.now
-        ).list }
-    ensures text_after { text.new ≡ (checking_of limits draft.now list.old text.old table.now
-        ).text }
+    ensures list_after { list.new
+        ≡ (checking_of limits draft.now list.old text.old table.now).list }
+    ensures text_after { text.new
+        ≡ (checking_of limits draft.now list.old text.old table.now).text }
 {
     let mut operations = [0u32; 1792];
     if !judge(table, &mut operations) {

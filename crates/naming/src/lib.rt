@@ -37,7 +37,7 @@ fn store(cells: &[u64; 1024], whats: &[u64; 128], s: Counts, found: usize) -> Mo
     requires { (s.base + s.seen ≤ 1024) × (0 < s.seen) × (found ≤ 128) }
     ensures { (text bases index name : List ℕ) → Standing text cells.now index whats.now s → Hiding bases s
         → found ≡ position (key_of text index) name s.names
-        → Agrees (assign_of limits kinds (state_of text cells.now bases index whats.now s) name (sight_of cells.entry.now s.base s.seen)) text cells.now bases index whats.now result }
+        → Agrees (assign_of limits kinds (state_of text cells.now bases index whats.now s) name (sight_of cells.now s.base s.seen)) text cells.now bases index whats.now result }
 {
     if found == 0 {
         return Move::Stops(26);

@@ -140,7 +140,7 @@ fn given(cells: &mut [u64; 1024], s: Counts, left: usize, table: &[u8], row: usi
         × ((k : ℕ) → k < get_or table.now (row + 265) 0 → get_or table.now (row + 266 + k) 0 < 16) }
     ensures { (step : ℕ) (text bases index whats : List ℕ) → Standing text cells.old index whats s → Hiding bases s
         → Agrees (given_of limits kinds step (state_of text cells.old bases index whats s) (take (get_or table.now
-        (row + 265) 0) (drop (row + 266) table.now)) (leaves (sight_of cells.old s.base left))) text cells.exit.now bases index whats result }
+        (row + 265) 0) (drop (row + 266) table.now)) (leaves (sight_of cells.old s.base left))) text cells.new bases index whats result }
 {
     let n = size(table[row + GIVES]);
     let top = s.base + left;
@@ -164,7 +164,7 @@ pub fn operate(
     requires { (i * 6 + 6 ≤ length list.now) × (text_at_in list.now i + text_len_in list.now i ≤ length text.now)
         × Entered table.now operations.now (row_count table.now) × (sound limits table.now ≡ true) × (s.base + s.seen ≤ 1024) }
     ensures { (bases index whats : List ℕ) → Standing text.now cells.old index whats s → Hiding bases s
-        → Agrees (operate_of limits kinds i (state_of text.now cells.old bases index whats s) (find_of (text_in list.entry.now text.now i) (operations_of table.now))) text.now cells.new bases index whats
+        → Agrees (operate_of limits kinds i (state_of text.now cells.old bases index whats s) (find_of (text_in list.now text.now i) (operations_of table.now))) text.now cells.new bases index whats
         result }
 {
     let at = wide(text_at_of(list, i));

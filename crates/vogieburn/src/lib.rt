@@ -33,10 +33,10 @@ pub extern "C" fn vogieburn_check(
     table: &[u8],
 ) -> Answer
     ensures value { result ≡ (checking_of limits draft.now list.old text.old table.now).answer }
-    ensures list_after { list.new ≡ (checking_of limits draft.now list.old text.old table.now
-        ).list }
-    ensures text_after { text.new ≡ (checking_of limits draft.now list.old text.old table.now
-        ).text }
+    ensures list_after { list.new
+        ≡ (checking_of limits draft.now list.old text.old table.now).list }
+    ensures text_after { text.new
+        ≡ (checking_of limits draft.now list.old text.old table.now).text }
 {
     let mut operations = [0u32; 1792];
     if !table::judge(table, &mut operations) {
