@@ -86,14 +86,17 @@ $(call put_filled,man/$(notdir $(1)),$(installed)/share/man/$(1))
 
 endef
 
+# No symbolic link, since the gate refuses one below the repository's folder, where a prefix may be.
 define put_link # SECTION/PAGE
-ln -sf vogieburn.3 $(installed)/share/man/$(1)
+ln -f $(installed)/share/man/man3/vogieburn.3 $(installed)/share/man/$(1)
 
 endef
 
-# Proved anew whenever a file or a folder of the crates is younger.
-$(archive): crates.txt $(shell find crates -not -path '*/must-fail*') | setup
-	rt staticlib vogieburn
+# Proved anew whenever the code, a definition or a proof of the crates is younger.
+$(archive): crates.txt $(shell find $(wildcard $(addprefix crates/*/,src specs proofs))) | setup
+	cd crates/vogieburn && rt lib
+	@mkdir -p $(dir $@)
+	@cp crates/vogieburn/out/$(notdir $@) $@
 
 viewer: setup $(archive)
 	@mkdir -p $(dir $(viewer))
