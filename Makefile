@@ -3,7 +3,7 @@
 # make list    lists the drafts in examples/, or with DRAFT=FILE that draft
 # make viewer  builds the viewer, target/view/vogieburn-view
 # make test    all tests; the last line is 'N passed, 0 failed'
-# make quick   the same, but proves only what changed and tries no must-fail edit
+# make quick   the same, but proves only what changed, tries no must-fail edit and asks for no layout
 # make vectors holds the definitions against tests/vectors
 # make trial   holds the library against the peer in tests/peer; TRIAL has words for it, as --short or --seed N
 # make trial-selftest shows that the trial can fail
