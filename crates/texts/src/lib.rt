@@ -39,20 +39,39 @@ fn listed(list: u64, k: u8) -> u64
     (list >> k) & 1
 }
 
-// The kind of a word by its first byte: numbers, names by their sign, and else operations. It is told by bits, since a processor could not
-// guess comparisons; small letters, with which most words begin, are told first.
+// The kind of a word by its first byte, one from `!` to `` ` ``. It is told by bits, since a processor could not guess comparisons.
+fn listed_kind(c: u8) -> u32
+    requires { (0x21 ≤ c) × (c ≤ 0x60) }
+    ensures { (result ≡ word_kind c) × (9 ≤ result) × (result ≤ 16) }
+{
+    let k = c - b'!';
+    let less = listed(ONE, k) + 2 * listed(TWO, k) + 4 * listed(FOUR, k);
+    (16 - less) as u32
+}
+
+// The kind of a word by its first byte: numbers, names by their sign, and else operations. Small letters, with which most words begin, are
+// told first.
 fn word_kind(c: u8) -> u32
     ensures { (result ≡ word_kind c) × (9 ≤ result) × (result ≤ 16) }
 {
     if b'`' < c {
         return 16;
     }
+    if c < b':' {
+        return number_kind(c);
+    }
+    listed_kind(c)
+}
+
+// The same of a byte below `:`: + - and digits begin a number.
+fn number_kind(c: u8) -> u32
+    requires { c < 0x3A }
+    ensures { (result ≡ word_kind c) × (9 ≤ result) × (result ≤ 16) }
+{
     if c < b'!' {
         return 16;
     }
-    let k = c - b'!';
-    let less = listed(ONE, k) + 2 * listed(TWO, k) + 4 * listed(FOUR, k);
-    (16 - less) as u32
+    listed_kind(c)
 }
 
 // The kind of a token: 0 is a simple one, 1 a quoted string, 2 a curly one.

@@ -1,21 +1,13 @@
--- `texts::word_kind` meets its contract: antt computes the definition and what the code makes of three lists at every byte. Assumes nothing.
+-- `texts::word_kind` meets its contract: antt computes the definition at every byte behind `` ` ``, and the others have functions of their
+-- own. Assumes nothing.
 use mathlib.Core.Path.{refl}
-use mathlib.Core.Bool.{◌&&◌}
-use Prim.Native.Nat.{ℕ, ◌+◌, ◌-◌, ◌*◌, ◌/◌, ◌^◌}
 use native.Mathlib.Omega.{arith}
-use lib.Bits.{bit_and}
-use lib.Dec.{eqb, leb, ltb}
-use borrow.Author.Tests.{eqb-true, le-leb, lt-ltb}
-use Rattle.tokens.proofs.Table.{constant, implied}
+use lib.Dec.{ltb}
+use borrow.Author.Tests.{lt-ltb}
+use Rattle.tokens.proofs.Table.{constant}
 use Rattle.entities.specs.Judging.{word_kind}
 use borrow.Author.Rules.{rules}
 use Rattle.texts.proofs.word_kind.Goals as goal
-
--- what is made of a byte
-abbrev made : ℕ → ℕ
-made b =
-    let bit : ℕ → ℕ = λ list. bit_and (list / 2 ^ (b - 0x21)) 1 in
-    16 - (bit 0x83FF9400 + 2 * bit 0x91FF9400 + 4 * bit 0x41FF9400)
 
 pub returns-then-c-gt96 : goal.returns-then-c-gt96
 unfolding word_kind
@@ -23,31 +15,5 @@ returns-then-c-gt96 c =
     let b = c.args.c in (
       constant word_kind 16 (λ k. ltb 0x60 k) refl b (search rules) (lt-ltb 0x60 b c.if-c-gt96.true),
       omega arith,
-      omega arith,
-    )
-
-pub returns-then-c-lt33 : goal.returns-then-c-lt33
-unfolding word_kind
-returns-then-c-lt33 c =
-    let b = c.args.c in (
-      constant word_kind 16 (λ k. ltb k 0x21) refl b (search rules) (lt-ltb b 0x21 c.if-c-lt33.true),
-      omega arith,
-      omega arith,
-    )
-
-pub returns : goal.returns
-unfolding word_kind
-returns c =
-    let b = c.args.c in
-    let one = c.listed.ensures in
-    let two = c.listed-2.ensures in
-    let four = c.listed-3.ensures in (
-      rw (one.0, two.0, four.0)
-          (eqb-true (made b) (word_kind b) (implied (λ k. leb 0x21 k && leb k 0x60) (λ k. eqb (made k) (word_kind k)) 256 refl b (search rules)
-          (rw (
-            le-leb 0x21 b c.if-c-lt33.false,
-            le-leb b 0x60 c.if-c-gt96.false,
-          )))),
-      omega (arith, one.1, two.1, four.1),
       omega arith,
     )
