@@ -3,3 +3,4 @@ pub mod Choice
 pub mod Character
 pub mod Stream
 pub mod Rfc3629
+pub mod Refusal

@@ -9,6 +9,7 @@ ghost use Rattle.chars.specs.Character.{carriage, character_at, encoded, nearest
 ghost use Rattle.chars.specs.Stream.{start as start_of};
 
 pub mod limits;
+pub mod refusal;
 
 // What the bytes at a place are by RFC 3629, surrogates let through.
 #[derive(Clone, Copy)]
