@@ -1,10 +1,10 @@
 -- What an entity of a kept list does, by the number of its kind: the definition at each number.
 use mathlib.Core.Path.{◌≡◌}
+use mathlib.Core.Bool.{true, false}
 use mathlib.Core.List.{List}
-use Prim.Native.Nat.{ℕ, ◌<◌, ◌≤◌}
-use native.Mathlib.Omega.{arith}
+use Prim.Native.Nat.{ℕ}
 use lib.Dec.{eqb}
-use borrow.Author.Tests.{eqb-true, eqb-false, ne_eqb}
+use borrow.Author.Tests.{ne_eqb}
 use Rattle.chars.specs.Limits.{Limits}
 use Rattle.chars.proofs.Cases.{either}
 use Rattle.entities.specs.Judging.{kind_of}
@@ -31,21 +31,23 @@ module _ (L : Limits) (os : List Operation) (step : ℕ) (s : State Checked) (li
   unfolding act entity_at kind_of kinds
   at_number h = rw h
 
-  pub at_string : 10 ≤ kind_in list i → kind_in list i < 12 → act L kinds os step s (entity_at list text i) ≡ push L kinds s (of 1)
+  pub at_quoted : kind_in list i ≡ 10 → act L kinds os step s (entity_at list text i) ≡ push L kinds s (of 1)
   unfolding act entity_at kind_of kinds
-  at_string g h =
-      either (eqb (kind_in list i) 10)
-      (λ t. rw (eqb-true (kind_in list i) 10 t))
-      (λ t. let is : kind_in list i ≡ 11 = omega (arith, eqb-false (kind_in list i) 10 t) in rw is)
+  at_quoted h = rw h
 
-  pub at_define :
-      (k : ℕ) → k ≡ kind_in list i → 12 ≤ k → k < 14
-      → act L kinds os step s (entity_at list text i) ≡ define L kinds s (eqb k 13) (text_in list text i) s.sight
+  pub at_curly : kind_in list i ≡ 11 → act L kinds os step s (entity_at list text i) ≡ push L kinds s (of 1)
+  unfolding act entity_at kind_of kinds
+  at_curly h = rw h
+
+  pub at_variable :
+      kind_in list i ≡ 12 → act L kinds os step s (entity_at list text i) ≡ define L kinds s false (text_in list text i) s.sight
   unfolding act entity_at kind_of
-  at_define k e g h =
-      either (eqb k 13)
-      (λ t. rw (← e, eqb-true k 13 t))
-      (λ t. let is : k ≡ 12 = omega (arith, eqb-false k 13 t) in rw (← e, is))
+  at_variable h = rw h
+
+  pub at_constant :
+      kind_in list i ≡ 13 → act L kinds os step s (entity_at list text i) ≡ define L kinds s true (text_in list text i) s.sight
+  unfolding act entity_at kind_of
+  at_constant h = rw h
 
   pub at_get :
       kind_in list i ≡ 14

@@ -1,4 +1,5 @@
 pub mod Acting
 pub mod Going
 pub mod Keeping
+pub mod Refusals
 pub mod Unique

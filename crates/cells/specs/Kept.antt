@@ -1,13 +1,15 @@
 -- A kept list: the entities that stand in a list's numbers and a text buffer's bytes (docs/LAYOUT.md), and their check.
-use Rattle.std.specs.Prelude.{ℕ, zero, suc, ◌+◌, ◌-◌, ◌*◌, ◌<◌, ◌≤◌, ◌≡◌, Bool, true, ◌&&◌, List, [], ◌∷◌, ltb, eqb, length, take, drop, if◌then◌else◌}
+use Rattle.std.specs.Prelude.{ℕ, zero, suc, ◌+◌, ◌-◌, ◌*◌, ◌<◌, ◌≤◌, ◌≡◌, Bool, true, ◌&&◌, List, [], ◌∷◌, ltb, eqb, length, take, drop, Result, Ok, Err, if◌then◌else◌}
 use Rattle.chars.specs.Limits.{Limits, limits}
+use Rattle.chars.specs.Refusal.{number_of}
 use Rattle.entities.specs.Entity.{Entity, kind_number}
 use Rattle.entities.specs.Judging.{kind_of}
 use Rattle.table.specs.Table.{Operation}
 use Rattle.rules.specs.Cells.{Ended}
 use Rattle.rules.specs.Kinds.{check}
 use Rattle.sight.specs.Row.{kind_in, place_in, text_at_in, text_len_in, data_len_in, count_in, text_in}
-use Rattle.cells.specs.declared.Outcome.{Outcome}
+use Rattle.cells.specs.declared.Passed.{Passed}
+use Rattle.cells.specs.declared.Stopped.{Stopped}
 
 -- the entity of a row, counted from 0; its data stands behind its text
 unfoldable pub entity_at : (list text : List ℕ) → (entity : ℕ) → Entity
@@ -30,8 +32,9 @@ unfoldable pub check_kept : Limits → List Operation → (list text : List ℕ)
 check_kept L os list text n = check L os (entities_from list text 0 n)
 
 -- how a check ended, in the words of the definition
-unfoldable pub ended_of : Outcome → Ended
-ended_of o = record { number = o.number; place = o.place; steps = o.steps; cells = o.cells }
+unfoldable pub ended_of : Result Passed Stopped → Ended
+ended_of (Ok p) = record { number = 0; place = 0; steps = p.steps; cells = p.cells }
+ended_of (Err s) = record { number = number_of s.refusal; place = s.place; steps = s.steps; cells = 0 }
 
 -- with so many groups open, no group ends that is not open, and there are never over `most`
 unfoldable pub grouped : (most depth : ℕ) → List Entity → Bool

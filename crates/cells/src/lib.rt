@@ -7,54 +7,69 @@ ghost use Rattle.chars.specs.Limits.{limits};
 ghost use Rattle.table.specs.Entered.{sound, row_count, operations_of, Entered};
 ghost use Rattle.rules.specs.Cells.{act as act_of};
 ghost use Rattle.rules.specs.Kinds.{kinds};
-ghost use Rattle.sight.specs.Arrays.{Standing, Hiding, Agrees, state_of};
+ghost use Rattle.sight.specs.Stacks.{state_in, Stands, Agrees};
 ghost use Rattle.cells.specs.Kept.{Held, Here, entity_at, check_kept, ended_of};
 
+use chars::refusal::Refusal;
+use holding::rows::Kind;
+use names::Index;
 use naming::{fix, get, put};
 use operations::operate;
-use sight::row::{count_of, kind_of, place_of};
-use sight::{Counts, Move, hide, push, show};
+use sight::{Counts, KINDS, Stack, row};
 
-// How a check ended: 0 or the rule that stopped it, the place of the entity, the entities handled, and the cells that remain.
-#[derive(Clone, Copy)]
-pub struct Outcome {
-    pub number: u32,
-    pub place: u32,
+// A check that passed: the entities handled, and the cells that remain.
+#[derive(Clone, Copy, Debug, PartialEq, Eq)]
+pub struct Passed {
     pub steps: usize,
     pub cells: usize,
 }
 
-// One entity.
+// What stopped a check: the refusal, the place of its entity, and the entities handled before it.
+#[derive(Clone, Copy, Debug, PartialEq, Eq)]
+pub struct Stopped {
+    pub refusal: Refusal,
+    pub place: u32,
+    pub steps: usize,
+}
+
+// The kinds of cells that literals are: numbers, as all kinds of cells are (`KINDS` of `sight`).
+const NUMBER: u64 = 0;
+
+const STRING: u64 = 1;
+
+// One entity. Metacommands do nothing, and neither does `|;`.
 fn act(
     list: &[u32],
     i: usize,
     text: &[u8],
     table: &[u8],
-    operations: &[u32; 1792],
-    cells: &mut [u64; 1024],
-    bases: &mut [u32; 64],
-    index: &mut [u32; 1792],
-    whats: &mut [u64; 128],
-    s: Counts,
-) -> Move
-    requires { Here list.now text.now i s.depth × Entered table.now operations.now (row_count table.now)
-        × (sound limits table.now ≡ true) × Standing text.now cells.old index.old whats.old s × Hiding bases.old s }
-    ensures { Agrees (act_of limits kinds (operations_of table.now) i (state_of text.now cells.old
-        bases.old index.old whats.old s) (entity_at list.now text.now i))
-        text.now cells.new bases.new index.new whats.new result }
+    operations: &Index,
+    stack: &mut Stack,
+) -> Result<(), Refusal>
+    requires { Here list.now text.now i stack.old.counts.depth × Entered table.now operations.now (row_count table.now)
+        × (sound limits table.now ≡ true) × Stands text.now stack.old }
+    ensures { Agrees (act_of limits kinds (operations_of table.now) i (state_in text.now stack.old) (entity_at list.now
+        text.now i)) text.now stack.new result }
 {
-    let kind = kind_of(list, i);
+    let row = row::of(list, i);
+    let Ok(kind) = Kind::try_from(row.kind) else {
+        return Ok(());
+    };
     match kind {
-        6 => hide(bases, s),
-        7 => show(bases, s),
-        8 => push(cells, s, count_of(list, i) + 16),
-        9 => push(cells, s, 0),
-        10 | 11 => push(cells, s, 1),
-        12 | 13 => fix(list, i, text, cells, index, whats, s, kind == 13),
-        14 => get(list, i, text, cells, index, whats, s),
-        15 => put(list, i, text, cells, index, whats, s),
-        16 => operate(list, i, text, table, operations, cells, s),
-        _ => Move::Goes(s),
+        Kind::BeginGroup => {
+            stack.hide();
+            Ok(())
+        }
+        Kind::EndGroup => stack.show(),
+        Kind::Array => stack.push(u64::from(row.count) + KINDS),
+        Kind::Number => stack.push(NUMBER),
+        Kind::QuotedString | Kind::CurlyString => stack.push(STRING),
+        Kind::DefineVariable => fix(row, text, stack, false),
+        Kind::DefineConstant => fix(row, text, stack, true),
+        Kind::Get => get(row, text, stack),
+        Kind::Put => put(row, text, stack),
+        Kind::Operation => operate(row, text, table, operations, stack),
+        _ => Ok(()),
     }
 }
 
@@ -64,46 +79,36 @@ pub fn check_kept(
     n: usize,
     text: &[u8],
     table: &[u8],
-    operations: &[u32; 1792],
-) -> Outcome
+    operations: &Index,
+) -> Result<Passed, Stopped>
     requires { Held list.now text.now n × Entered table.now operations.now (row_count table.now)
         × (sound limits table.now ≡ true) }
     ensures { ended_of result ≡ check_kept limits (operations_of table.now) list.now text.now n }
 {
-    let mut cells = [0u64; 1024];
-    let mut bases = [0u32; 64];
-    let mut index = [0u32; 1792];
-    let mut whats = [0u64; 128];
-    let mut s = Counts {
-        base: 0,
-        seen: 0,
-        depth: 0,
-        names: 0,
+    let mut stack = Stack {
+        cells: [0; 1024],
+        bases: [0; 64],
+        index: [0; 1792],
+        whats: [0; 128],
+        counts: Counts {
+            base: 0,
+            seen: 0,
+            depth: 0,
+            names: 0,
+        },
     };
-    let mut i = 0;
-    while i < n {
-        let r = act(
-            list, i, text, table, operations, &mut cells, &mut bases, &mut index, &mut whats, s,
-        );
-        match r {
-            Move::Stops(rule) => {
-                return Outcome {
-                    number: rule,
-                    place: place_of(list, i),
-                    steps: i,
-                    cells: 0,
-                };
-            }
-            Move::Goes(next) => {
-                s = next;
-            }
+    for i in 0..n {
+        if let Err(refusal) = act(list, i, text, table, operations, &mut stack) {
+            let stopped = Stopped {
+                refusal,
+                place: row::of(list, i).place,
+                steps: i,
+            };
+            return Err(stopped);
         }
-        i += 1;
     }
-    Outcome {
-        number: 0,
-        place: 0,
+    Ok(Passed {
         steps: n,
-        cells: s.base + s.seen,
-    }
+        cells: stack.counts.base + stack.counts.seen,
+    })
 }

@@ -6,13 +6,15 @@ use mathlib.Core.List.{List, [], ◌∷◌}
 use Prim.Native.Nat.{ℕ, ◌+◌, ◌-◌, ◌*◌, ◌<◌, ◌≤◌}
 use native.Mathlib.Omega.{arith}
 use lib.Dec.{leb, eqb}
-use lib.ListN.{length, get_or, drop, length-drop}
-use borrow.Author.Tests.{le-leb, leb-true, leb-false, eqb-true, eqb-false}
+use lib.ListN.{length, get_or, drop, length-drop, drop_of_length-le}
+use lib.Seq.{drop-cons}
+use native.Mathlib.Numerals.{add-one}
+use borrow.Author.Tests.{le-leb, leb-true, leb-false, eqb-true, eqb-false, eq-eqb, ne_eqb}
 use Rattle.chars.specs.Choice.{within}
-use Rattle.chars.specs.Character.{sequence, high, low, paired, judged, carriage, character, encoded}
-use Rattle.chars.specs.declared.Sequence.{Sequence}
-use Rattle.chars.specs.declared.Sequence.TheVariants.{Whole, Malformed}
-use Rattle.chars.specs.declared.Character.TheVariants.{Clean, Refused, End}
+use Rattle.chars.specs.Character.{sequence, high, low, paired, judged, carriage, character, character_at, encoded}
+use Rattle.chars.specs.Character.{Sequence}
+use Rattle.chars.specs.Character.{Whole, Malformed}
+use Rattle.chars.specs.Character.{Clean, Refused, End}
 use Rattle.chars.proofs.Cases.{by_test, either}
 use Rattle.chars.proofs.Extent.{within_true, Sound, sequence_sound, encoded_one, encoded_three, encoded_size}
 
@@ -182,3 +184,28 @@ goes_on b bytes place e =
     (λ r e. judged_goes_on place (sequence (b ∷ bytes) place) (b ∷ bytes) e)
     e)
     e
+
+-- The character at `at`, by the byte there.
+module _ (draft : List ℕ) (at : ℕ) where
+  pub at_none : length draft ≤ at → character_at draft at ≡ End
+  unfolding character character_at
+  at_none h = rw (drop_of_length-le draft h)
+
+  pub at_nul : at < length draft → get_or draft at 0 ≡ 0 → character_at draft at ≡ Refused 4 at
+  unfolding character character_at
+  at_nul h e = rw (drop-cons draft at 0 h) (simp (eq-eqb (get_or draft at 0) 0 e))
+
+  pub at_return : at < length draft → get_or draft at 0 ≡ 0x0D → character_at draft at ≡ carriage at (drop (at + 1) draft)
+  unfolding character character_at
+  at_return h e =
+      rw (drop-cons draft at 0 h, add-one)
+      (simp (ne_eqb (get_or draft at 0) 0 (λ z. omega arith), eq-eqb (get_or draft at 0) 0x0D e))
+
+  pub at_other :
+      at < length draft → (get_or draft at 0 ≡ 0 → ⊥) → (get_or draft at 0 ≡ 0x0D → ⊥)
+      → character_at draft at ≡ judged at (sequence (drop at draft) at) (drop at draft)
+  unfolding character character_at
+  at_other h n r =
+      rw (drop-cons draft at 0 h) (simp (ne_eqb (get_or draft at 0) 0 n, ne_eqb (get_or draft at 0) 0x0D r))
+
+pub ruleset characters = (at_none, at_nul, at_return, at_other)

@@ -3,7 +3,7 @@
 use mathlib.Core.Path.{◌≡◌, refl, sym, ◌∙◌, ap}
 use mathlib.Core.Bool.{true}
 use mathlib.Core.List.{List, [], ◌∷◌}
-use Prim.Native.Nat.{ℕ, zero, suc, ◌+◌, ◌-◌, ◌*◌, ◌^◌, ◌/◌, ◌%◌, ◌<◌, ◌≤◌}
+use Prim.Native.Nat.{ℕ, zero, min, suc, ◌+◌, ◌-◌, ◌*◌, ◌^◌, ◌/◌, ◌%◌, ◌<◌, ◌≤◌}
 use native.Mathlib.Nat.{mul-le-mul_right, mul_assoc, pow-succ'}
 use native.Mathlib.Omega.{arith}
 use lib.Dec.{leb, ltb, eqb}
@@ -12,7 +12,7 @@ use lib.Seq.{drop-drop}
 use borrow.Author.Tests.{le-leb, lt-leb, leb-true, ltb-true, ltb-false, eqb-true, eqb-false, lt-ltb, le-ltb, ne_eqb}
 use Rattle.chars.specs.Choice.{within}
 use Rattle.chars.specs.Character.{continued, sequence, lowest, highest, encoded, nearest}
-use Rattle.chars.specs.declared.Sequence.TheVariants.{Whole, Malformed}
+use Rattle.chars.specs.Character.{Whole, Malformed}
 use Rattle.chars.proofs.Sequences.{following}
 use Rattle.chars.proofs.Cases.{by_test, both, either, by_bound}
 
@@ -111,6 +111,8 @@ pub encoded_four :
 unfolding encoded
 encoded_four n g = simp (le-ltb n 0x80 (omega arith), le-ltb n 0x800 (omega arith), le-ltb n 0x10000 g)
 
+pub ruleset by_length = (encoded_one, encoded_two, encoded_three, encoded_four)
+
 -- a number is in the range of one, two, three or four bytes
 pub by_range {κ} :
     {P : Type κ} (n : ℕ) → (n < 0x80 → P) → (0x80 ≤ n → n < 0x800 → P) → (0x800 ≤ n → n < 0x10000 → P) → (0x10000 ≤ n → P) → P
@@ -133,6 +135,10 @@ nearest_own n h = rw (le-leb n 0x10FFFF (omega arith))
 pub nearest_last : (n : ℕ) → 0x110000 ≤ n → nearest n ≡ 0x10FFFF
 unfolding nearest
 nearest_last n g = rw (lt-leb n 0x10FFFF (omega arith))
+
+-- so it is the lesser of the two
+pub nearest_least : (n : ℕ) → nearest n ≡ min n 0x10FFFF
+nearest_least n = by_bound n 0x110000 (λ l. nearest_own n l ∙ omega arith) (λ g. nearest_last n g ∙ omega arith)
 
 -- either way it takes as many bytes
 pub nearest_length : (n : ℕ) → length (encoded (nearest n)) ≡ length (encoded n)

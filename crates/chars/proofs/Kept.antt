@@ -11,9 +11,9 @@ use borrow.Author.Tests.{ltb-true, ltb-false}
 use Rattle.chars.specs.Choice.{within}
 use Rattle.chars.specs.Character.{continued, sequence, lowest, highest, encoded}
 use Rattle.chars.specs.Character.{high, low, paired, judged, carriage, character}
-use Rattle.chars.specs.declared.Sequence.{Sequence}
-use Rattle.chars.specs.declared.Sequence.TheVariants.{Whole, Malformed}
-use Rattle.chars.specs.declared.Character.TheVariants.{Clean}
+use Rattle.chars.specs.Character.{Sequence}
+use Rattle.chars.specs.Character.{Whole, Malformed}
+use Rattle.chars.specs.Character.{Clean}
 use Rattle.chars.proofs.Cases.{by_test}
 use Rattle.chars.proofs.Sequences.{following}
 use Rattle.chars.proofs.Extent.{malformed, within_true, lowest_least, highest_most, so_many, sequence_sound, three_bytes}

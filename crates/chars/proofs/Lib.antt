@@ -1,4 +1,5 @@
 pub mod Computes
+pub mod Numbers
 pub mod Cases
 pub mod Same
 pub mod Sequences

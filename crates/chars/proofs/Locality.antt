@@ -14,9 +14,9 @@ use Rattle.std.specs.Prelude.{if◌then◌else◌}
 use Rattle.chars.specs.Choice.{within}
 use Rattle.chars.specs.Character.{continued, sequence, lowest, highest, high, low}
 use Rattle.chars.specs.Character.{paired, judged, carriage, character, character_at}
-use Rattle.chars.specs.declared.Sequence.{Sequence}
-use Rattle.chars.specs.declared.Sequence.TheVariants.{Whole, Malformed}
-use Rattle.chars.specs.declared.Character.TheVariants.{Clean, Refused}
+use Rattle.chars.specs.Character.{Sequence}
+use Rattle.chars.specs.Character.{Whole, Malformed}
+use Rattle.chars.specs.Character.{Clean, Refused}
 use Rattle.chars.proofs.Cases.{by_test, either, by_bound}
 use Rattle.chars.proofs.Sequences.{following}
 use Rattle.chars.proofs.Extent.{malformed, within_true, so_many, sequence_sound, three_bytes}

@@ -8,10 +8,10 @@ use lib.ListN.{length, get_or, drop}
 use borrow.Author.Tests.{leb-true, leb-false}
 use Rattle.chars.specs.Character.{sequence, high, low, paired, judged, carriage, character, character_at}
 use Rattle.chars.specs.Stream.{Stream, next, stop, begun, stream, stream_at}
-use Rattle.chars.specs.declared.Sequence.{Sequence}
-use Rattle.chars.specs.declared.Sequence.TheVariants.{Whole, Malformed}
-use Rattle.chars.specs.declared.Character.{Character}
-use Rattle.chars.specs.declared.Character.TheVariants.{Clean, Refused, End}
+use Rattle.chars.specs.Character.{Sequence}
+use Rattle.chars.specs.Character.{Whole, Malformed}
+use Rattle.chars.specs.Character.{Character}
+use Rattle.chars.specs.Character.{Clean, Refused, End}
 use Rattle.chars.proofs.Cases.{by_test, either}
 use Rattle.chars.proofs.Streams.{at_end, at_character, at_refusal, ended}
 

@@ -12,8 +12,8 @@ use borrow.Author.Tests.{le-leb, lt-leb, eqb-true, ne_eqb, lt-ltb}
 use Rattle.chars.specs.Choice.{among}
 use Rattle.chars.specs.Character.{continued, sequence, lowest, highest, judged, character, encoded}
 use Rattle.chars.specs.Rfc3629.{utf8_char}
-use Rattle.chars.specs.declared.Sequence.TheVariants.{Whole}
-use Rattle.chars.specs.declared.Character.TheVariants.{Clean}
+use Rattle.chars.specs.Character.{Whole}
+use Rattle.chars.specs.Character.{Clean}
 use Rattle.chars.proofs.Cases.{either}
 use Rattle.chars.proofs.Sequences.{begins_two, begins_three, begins_four}
 use Rattle.chars.proofs.Extent.{inside, encoded_one, encoded_two, encoded_three, encoded_four, by_range}

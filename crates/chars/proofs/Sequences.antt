@@ -10,8 +10,8 @@ use lib.ListN.{length, get_or, drop, drop_of_length-le}
 use lib.Seq.{drop-cons}
 use borrow.Author.Tests.{le-leb, lt-leb, le-ltb, lt-ltb}
 use Rattle.chars.specs.Character.{continued, sequence, lowest, highest}
-use Rattle.chars.specs.declared.Sequence.{Sequence}
-use Rattle.chars.specs.declared.Sequence.TheVariants.{Whole, Malformed}
+use Rattle.chars.specs.Character.{Sequence}
+use Rattle.chars.specs.Character.{Whole, Malformed}
 
 -- no more are wanted
 pub done : (n low high v : ℕ) (bytes : List ℕ) (place : ℕ) → n ≡ 0 → continued n low high v bytes place ≡ Whole v place
@@ -139,3 +139,24 @@ room v b (suc n) h p r =
 pub small : (v n : ℕ) → (v + 1) * 64 ^ n ≤ 2 ^ 21 → v < 2 ^ 21
 small v n r =
     let more : v + 1 ≤ (v + 1) * 64 ^ n = le-mul_of_pos_right (v + 1) (one-le-pow n 64 (omega arith)) in omega arith
+
+-- at most three are wanted
+pub few : (v n : ℕ) → (v + 1) * 64 ^ n ≤ 2 ^ 21 → n ≤ 3
+few v zero r = omega arith
+few v (suc zero) r = omega arith
+few v (suc (suc zero)) r = omega arith
+few v (suc (suc (suc zero))) r = omega arith
+few v (suc (suc (suc (suc n)))) r =
+    let least : 1 ≤ 64 ^ n = one-le-pow n 64 (omega arith) in
+    let one = pow-succ' 64 n in
+    let two = pow-succ' 64 (suc n) in
+    let three = pow-succ' 64 (suc (suc n)) in
+    let four = pow-succ' 64 (suc (suc (suc n))) in
+    let most : 1 * 64 ^ suc (suc (suc (suc n))) ≤ (v + 1) * 64 ^ suc (suc (suc (suc n))) = mul-le-mul_right _ (omega arith) in
+    absurd (omega arith)
+
+-- a sequence by its first byte
+pub ruleset sequences = (nothing, single, stray, none, two, three, four)
+
+-- its continuation bytes, and room for them
+pub ruleset continuing = (done, out, below, above, onward, room, small, few)

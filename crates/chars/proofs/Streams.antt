@@ -10,8 +10,8 @@ use lib.Seq.{drop-cons, drop-drop}
 use borrow.Author.Tests.{ne_eqb, lt-leb, leb-true, leb-false}
 use Rattle.chars.specs.Character.{judged, character, character_at, told}
 use Rattle.chars.specs.Stream.{next, stop, begun, stream, stream_at}
-use Rattle.chars.specs.declared.Character.{Character}
-use Rattle.chars.specs.declared.Character.TheVariants.{Clean, Refused, End}
+use Rattle.chars.specs.Character.{Character}
+use Rattle.chars.specs.Character.{Clean, Refused, End}
 use Rattle.chars.proofs.Characters.{character_is, goes_on}
 use Rattle.chars.proofs.Cases.{either}
 use Rattle.chars.proofs.Sequences.{single}

@@ -4,10 +4,17 @@ use mathlib.Core.List.{List}
 use Prim.Native.Nat.{ℕ}
 use Rattle.chars.proofs as fn
 use Rattle.chars.proofs.Only.{one, OneAnswer}
+use Rattle.chars.proofs.Numbers.{same_seen}
 use Rattle.chars.specs.declared.Encoded.{Encoded}
 
 pub character_at_lem : OneAnswer fn.character_at.Kinds.ps fn.character_at.Kinds.r fn.character_at.Reads.Post
-character_at_lem κs given a b x y = one
+character_at_lem κs given a b x y p q = same_seen a b (one p q)
+
+pub number : OneAnswer fn.refusal.Refusal.number.Kinds.ps fn.refusal.Refusal.number.Kinds.r fn.refusal.Refusal.number.Reads.Post
+number κs given a b x y = one
+
+pub at : OneAnswer fn.refusal.Refusal.at.Kinds.ps fn.refusal.Refusal.at.Kinds.r fn.refusal.Refusal.at.Reads.Post
+at κs given a b x y = one
 
 pub start : OneAnswer fn.start.Kinds.ps fn.start.Kinds.r fn.start.Reads.Post
 start κs given a b x y = one

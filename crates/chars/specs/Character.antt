@@ -1,10 +1,24 @@
 -- One character, from the bytes at a place on (004, section 2; document 01, "From bytes to characters").
 use Rattle.std.specs.Prelude.{ℕ, zero, suc, ◌+◌, ◌-◌, ◌*◌, ◌/◌, ◌%◌, Bool, List, [], ◌∷◌, ◌++◌, leb, ltb, eqb, length, get_or, drop, replicate, if◌then◌else◌}
+use Rattle.std.specs.Prelude.{Option, Some, None, Result, Ok, Err}
 use Rattle.chars.specs.Choice.{within}
-use Rattle.chars.specs.declared.Character.{Character}
-use Rattle.chars.specs.declared.Character.TheVariants.{Clean, Refused, End}
-use Rattle.chars.specs.declared.Sequence.{Sequence}
-use Rattle.chars.specs.declared.Sequence.TheVariants.{Whole, Malformed}
+use Rattle.chars.specs.Refusal.{number_of}
+use Rattle.chars.specs.declared.Sequence.{Sequence as Found}
+use Rattle.chars.specs.declared.Clean.{Clean as Cleaned}
+use Rattle.chars.specs.declared.refusal.Refused.{Refused as Refusing}
+
+-- What the bytes at a place are by RFC 3629, surrogates let through: a number and the byte after its sequence, or the first byte at which
+-- they can no longer be the start of a sequence.
+pub data Sequence : Type 0 where
+  Whole : (number after : ℕ) → Sequence
+  Malformed : (bad : ℕ) → Sequence
+
+-- What stands at a place of a draft: a character after cleaning, with its number and the byte after the bytes that it took; refusal 2, 3,
+-- 4 or 5, with its place; or the draft's end.
+pub data Character : Type 0 where
+  Clean : (number after : ℕ) → Character
+  Refused : (number place : ℕ) → Character
+  End : Character
 
 -- `n` continuation bytes from `place` on, the first of them from `low` to `high` and the others 80 to BF, each of six bits
 unfoldable pub continued : (n low high number : ℕ) → List ℕ → (place : ℕ) → Sequence
@@ -106,3 +120,17 @@ unfoldable pub told : (length : ℕ) → Character → Told
 told length (Clean number after) = record { refusal = 0; place = 0; number = number; after = after }
 told length (Refused number place) = record { refusal = number; place = place; number = 0; after = 0 }
 told length End = record { refusal = 7; place = length; number = 0; after = 0 }
+
+-- The answers of the code, each as the definition has it.
+abbrev pub seen_sequence : Result Found ℕ → Sequence
+seen_sequence (Ok s) = Whole s.number s.after
+seen_sequence (Err bad) = Malformed bad
+
+abbrev pub seen_clean : Result Cleaned Refusing → Character
+seen_clean (Ok c) = Clean c.number c.after
+seen_clean (Err r) = Refused (number_of r.refusal) r.place
+
+abbrev pub seen : Result (Option Cleaned) Refusing → Character
+seen (Ok (Some c)) = Clean c.number c.after
+seen (Ok None) = End
+seen (Err r) = Refused (number_of r.refusal) r.place

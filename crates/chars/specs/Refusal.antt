@@ -1,9 +1,14 @@
 -- The numbers of refusal (document 01, "Numbers of refusal").
 use Rattle.std.specs.Prelude.{ℕ}
 use Rattle.chars.specs.declared.refusal.Refusal.{Refusal}
-use Rattle.chars.specs.declared.refusal.Refusal.TheVariants.{DraftTooLong, Malformed, UnpairedSurrogate, Nul, CarriageReturn, IllegalCharacter, DraftEnds, TokenTooLong, StringTooLong, PercentInside, SemicolonOutside, LastInMetacommand, LastInGroup, NoGroup, NoElement, NoArray, TooManyGroups, ListFull, TextFull, TableUnsound, OperationUnknown, TooFewCells, WrongKind, NoCount, NameDefined, NameUnknown, PutToConstant, NotOneCell, TooManyCells, TooManyNames, PlacePastDraft}
+use Rattle.chars.specs.declared.refusal.Refusal.TheVariants.{DraftTooLong, Malformed, UnpairedSurrogate, Nul, CarriageReturn}
+use Rattle.chars.specs.declared.refusal.Refusal.TheVariants.{IllegalCharacter, DraftEnds, TokenTooLong, StringTooLong, PercentInside}
+use Rattle.chars.specs.declared.refusal.Refusal.TheVariants.{SemicolonOutside, LastInMetacommand, LastInGroup, NoGroup, NoElement}
+use Rattle.chars.specs.declared.refusal.Refusal.TheVariants.{NoArray, TooManyGroups, ListFull, TextFull, TableUnsound, OperationUnknown}
+use Rattle.chars.specs.declared.refusal.Refusal.TheVariants.{TooFewCells, WrongKind, NoCount, NameDefined, NameUnknown, PutToConstant}
+use Rattle.chars.specs.declared.refusal.Refusal.TheVariants.{NotOneCell, TooManyCells, TooManyNames, PlacePastDraft}
 
-unfoldable pub number_of : Refusal → ℕ
+abbrev pub number_of : Refusal → ℕ
 number_of DraftTooLong = 1
 number_of Malformed = 2
 number_of UnpairedSurrogate = 3

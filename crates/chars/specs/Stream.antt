@@ -2,8 +2,8 @@
 use Rattle.std.specs.Prelude.{ℕ, zero, suc, ◌-◌, min, List, [], ◌∷◌, ◌++◌, leb, length, take, drop, if◌then◌else◌}
 use Rattle.chars.specs.Choice.{same}
 use Rattle.chars.specs.Character.{character, encoded}
-use Rattle.chars.specs.declared.Character.{Character}
-use Rattle.chars.specs.declared.Character.TheVariants.{Clean, Refused, End}
+use Rattle.chars.specs.Character.{Character}
+use Rattle.chars.specs.Character.{Clean, Refused, End}
 
 -- Characters, each with its place and the byte after it, and then the stream's own end: a refusal 2 to 5 with its place, or 7 at
 -- the draft's length. Whoever takes no more characters never meets the end.

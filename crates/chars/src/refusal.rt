@@ -43,11 +43,21 @@ pub enum Refusal {
 }
 
 impl Refusal {
-    // Its number.
+    // Its number. A method and no `From`, for `u64::from` of a refusal would not say which number.
     pub fn number(self) -> u64
         ensures { result ≡ number_of self }
     {
         self as u64
+    }
+
+    // It, at a place.
+    pub fn at(self, place: usize) -> Refused
+        ensures { result ≡ record { refusal = self; place = place } }
+    {
+        Refused {
+            refusal: self,
+            place,
+        }
     }
 }
 

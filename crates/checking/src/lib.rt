@@ -8,7 +8,9 @@ ghost use Rattle.table.specs.Entered.{sound, row_count, operations_of, Entered};
 ghost use Rattle.cells.specs.Kept.{Held, check_kept, ended_of};
 ghost use Rattle.checking.specs.Checking.{told, checking as checking_of};
 
-use cells::{Outcome, check_kept};
+use cells::{Passed, Stopped, check_kept};
+use chars::refusal::Refusal;
+use names::Index;
 use reading::{Answer, read};
 use table::judge;
 
@@ -19,7 +21,7 @@ pub fn unsound(list: &mut [u32], text: &mut [u8]) -> Answer
     ensures text_unchanged { text.new ≡ text.old }
 {
     Answer {
-        number: 20,
+        number: Refusal::TableUnsound.number(),
         place: 0,
         entities: 0,
         text: 0,
@@ -29,30 +31,33 @@ pub fn unsound(list: &mut [u32], text: &mut [u8]) -> Answer
     }
 }
 
-// The answer of a check, once reading has answered `a`.
-fn finished(a: Answer, o: Outcome) -> Answer
-    ensures { result ≡ told a (ended_of o) }
+// The answer of a check, once reading has answered `a`: the byte after `;` is told where the check passed. No `From`, for it is made of
+// two values.
+fn finished(a: Answer, ended: Result<Passed, Stopped>) -> Answer
+    ensures { result ≡ told a (ended_of ended) }
 {
-    let consumed = if o.number == 0 { a.consumed } else { 0 };
-    Answer {
-        number: o.number as u64,
-        place: o.place as u64,
-        entities: a.entities,
-        text: a.text,
-        consumed,
-        steps: o.steps as u64,
-        cells: o.cells as u64,
+    match ended {
+        Ok(passed) => Answer {
+            number: 0,
+            place: 0,
+            steps: passed.steps as u64,
+            cells: passed.cells as u64,
+            ..a
+        },
+        Err(stopped) => Answer {
+            number: stopped.refusal.number(),
+            place: u64::from(stopped.place),
+            consumed: 0,
+            steps: stopped.steps as u64,
+            cells: 0,
+            ..a
+        },
     }
 }
 
-// What a check answers once reading has answered `a`: a refusal of reading stands, and else what was read is checked.
-pub fn checked(
-    a: Answer,
-    list: &[u32],
-    text: &[u8],
-    table: &[u8],
-    operations: &[u32; 1792],
-) -> Answer
+// What a check answers once reading has answered `a`: a refusal of reading stands, and else what was read is checked. An answer is laid out
+// as C has it, with a number of refusal or 0.
+pub fn checked(a: Answer, list: &[u32], text: &[u8], table: &[u8], operations: &Index) -> Answer
     requires { a.number ≡ 0 → Held list.now text.now a.entities × Entered table.now operations.now (row_count table.now)
         × (sound limits table.now ≡ true) }
     ensures { result ≡ (if eqb a.number 0
@@ -62,8 +67,8 @@ pub fn checked(
     if a.number != 0 {
         return a;
     }
-    let o = check_kept(list, a.entities as usize, text, table, operations);
-    finished(a, o)
+    let ended = check_kept(list, a.entities as usize, text, table, operations);
+    finished(a, ended)
 }
 
 // Judges a table, reads a draft into two lent buffers as `read` does, and then checks what was read. After 20 and 1 nothing is written;

@@ -5,24 +5,30 @@ use mathlib.Core.List.{List, [], ◌∷◌, ◌++◌, append-nil, append_assoc}
 use Prim.Native.Nat.{ℕ, zero, suc, ◌+◌, ◌-◌, ◌<◌, ◌≤◌}
 use native.Mathlib.Omega.{arith}
 use native.Mathlib.Numerals.{add-one}
-use lib.ListN.{length, get_or, take, drop, set, length-append, length-drop, take-append-drop}
-use lib.Seq.{length-take-le, take_at, drop_at, set_split, drop-drop, take-append_seam, append_snoc, paste, paste-zero, paste-suc, get_or-drop}
+use lib.ListN.{length, get_or, take, drop, set, length-append, length-take, length-drop, take-append-drop}
+use lib.Seq.{length-take-le, take_at, drop_at, set_split, drop-drop, take-append_seam, take-take, append_snoc, paste, paste-zero, paste-suc, get_or-take, get_or-drop}
 use borrow.Author.Tests.{le-ltb, lt-ltb}
-use Rattle.chars.specs.Character.{character_at, encoded, nearest, padded}
+use borrow.Rule.Slice.PartMut.{put_mid, post_of, Post-is}
+use Rattle.chars.specs.Character.{Clean, character_at, encoded, nearest, padded}
 use Rattle.chars.specs.Stream.{stream_at, clean}
-use Rattle.chars.specs.declared.Character.TheVariants.{Clean}
 use Rattle.chars.proofs.Extent.{encoded_one, nearest_own}
 use Rattle.tokens.proofs.Passing.{class_at}
 use Rattle.tokens.proofs.Classes.{low}
 use Rattle.tokens.proofs.Clean.{clean_next}
 use Rattle.tokens.proofs.Skipping.{alone_at, scalar}
-use Rattle.copying.specs.Copy.{copied, copied_into}
-use Rattle.copying.specs.declared.Copied.TheVariants.{Whole, TooSmall}
+use Rattle.copying.specs.Copy.{Whole, TooSmall, copied, copied_into}
 
 -- the bytes of a re-encoded character in their four bytes
 pub unpadded : (bytes : List ℕ) → take (length bytes) (padded bytes) ≡ bytes
 unfolding padded
 unpadded bytes = take-append_seam bytes _
+
+-- bytes stored in a part in the middle
+pub stored :
+    (out bytes part : List ℕ) (k size : ℕ) → part ≡ take size bytes → put_mid k (k + size - k) out part ≡ paste out k bytes size
+stored out bytes part k size is =
+    let behind : post_of k (k + size - k) out ≡ drop (k + size) out = Post-is k (k + size) out (omega arith) in
+    ap (λ l. take k out ++ l) (rw (is, behind)) ∙ sym (append_assoc (take k out) (take size bytes) (drop (k + size) out))
 
 -- a part that is too small is left alone
 pub too_small :
@@ -125,13 +131,18 @@ module _ (draft : List ℕ) (from n : ℕ) (before : List ℕ) where
       rw (here, there, ← same, stored) at (advance_byte (paste out k (drop i draft) r) (i + r) (k + r) before_last (omega arith)
       (g r (omega arith)) (omega arith))
 
-  -- the bytes that cleaning leaves as they are, of the `most` that there are
+  -- the bytes that cleaning leaves as they are, of `bytes` that come next
   pub advance_kept :
-      (out : List ℕ) (i k most r : ℕ) (out' : List ℕ) → Copying out i k → (most ≤ n - k) × (most ≤ length draft - i)
-      → (r ≤ most) × (out' ≡ paste out k (drop i draft) r) × ((j : ℕ) → j < r → 1 ≤ class_at draft (i + j))
+      (out : List ℕ) (i k r : ℕ) (bytes out' : List ℕ) → Copying out i k → bytes ≡ take (n - k) (drop i draft)
+      → (r ≤ length bytes) × (out' ≡ paste out k bytes r) × ((j : ℕ) → j < r → 1 ≤ class_at bytes j)
       → Copying out' (i + r) (k + r)
-  advance_kept out i k most r out' c h g =
-      rw g.1 (advance_run out i k r c (omega (arith, h.1, g.0)) (omega (arith, h.0, g.0, c.within)) g.2)
+  advance_kept out i k r bytes out' c is g =
+      let many = ap length is ∙ length-take (n - k) (drop i draft) in
+      let long : length bytes ≤ n - k = omega (arith, many) in
+      let there : length bytes ≤ length draft - i = omega (arith, many, length-drop i draft) in
+      let front : take r bytes ≡ take r (drop i draft) = ap (take r) is ∙ take-take r (n - k) (drop i draft) (omega (arith, g.0, long)) in
+      rw (g.1, front) (advance_run out i k r c (omega (arith, there, g.0)) (omega (arith, long, g.0, c.within))
+      (λ j l. rw (← get_or-drop i draft j 0, ← get_or-take (n - k) (drop i draft) j 0 (omega (arith, long, g.0, l)), ← is) (g.2 j l)))
 
   -- a character that is re-encoded
   pub advance_coded :

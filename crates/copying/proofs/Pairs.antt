@@ -5,9 +5,7 @@ use Prim.Native.Nat.{ℕ, suc, ◌+◌, ◌-◌, ◌*◌, ◌<◌, ◌≤◌}
 use native.Mathlib.Omega.{arith}
 use lib.ListN.{length, get_or, drop}
 use lib.Seq.{drop-cons, drop-drop}
-use Rattle.chars.specs.Character.{continued, lowest, highest, sequence, paired, judged, carriage, character, character_at}
-use Rattle.chars.specs.declared.Character.TheVariants.{Clean}
-use Rattle.chars.specs.declared.Sequence.TheVariants.{Whole}
+use Rattle.chars.specs.Character.{Clean, Whole, continued, lowest, highest, sequence, paired, judged, carriage, character, character_at}
 use Rattle.chars.proofs.Extent.{inside}
 
 -- a byte and those behind it

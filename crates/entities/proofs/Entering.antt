@@ -5,7 +5,7 @@ use mathlib.Core.Bool.{Bool, true, not, ◌&&◌}
 use mathlib.Core.List.{List}
 use Prim.Native.Nat.{ℕ, ◌+◌, ◌-◌, ◌*◌, ◌<◌, ◌≤◌, ◌/◌}
 use native.Mathlib.Omega.{arith}
-use lib.Dec.{leb, ltb, eqb}
+use lib.Dec.{leb, ltb}
 use lib.ListN.{length}
 use borrow.Author.Tests.{eq-eqb, ne_eqb, lt-ltb, le-ltb, leb-true, ltb-true}
 use Rattle.chars.specs.Limits.{limits}
@@ -13,8 +13,9 @@ use Rattle.chars.proofs.Cases.{either, both}
 use Rattle.entities.specs.Making.{Reader, Judged, Handled, stops, holds, fitted, handled, within_groups}
 use Rattle.entities.specs.Judging.{bares, kind_of}
 use Rattle.entities.specs.Stepping.{Ready, open_groups, below, room_left, reader_of, agrees, Took, Goes, Stops}
-use Rattle.entities.specs.Stepping.{entered_by, entered_groups, lead_of}
+use Rattle.entities.specs.Stepping.{entered_by, entered_groups, lead_of, bracketed}
 use Rattle.entities.specs.declared.state.State.{State}
+use Rattle.entities.specs.declared.state.Mode.TheVariants.{Regular}
 use Rattle.entities.proofs.OpenGroups.{so_many}
 
 -- what a token did is told of a state by what that holds alone
@@ -33,7 +34,7 @@ module _ (s : State) (list text groups : List ℕ) (place : ℕ) (closes : Bool)
   gs = open_groups groups s.depth
 
   abbrev brings : Bool
-  brings = eqb s.mode 1 && not closes
+  brings = bracketed s.mode && not closes
 
   abbrev comes : Handled
   comes = handled limits (room_left s list text) (reader_of s groups) closes place judge
@@ -80,7 +81,7 @@ module _ (s : State) (list text groups : List ℕ) (place : ℕ) (closes : Bool)
           lt-ltb (length gs) 64 (omega (arith, so_many groups s.depth)),
           ne_eqb (length list / 6 - s.entities) 0 (some t),
         )
-        (same_held s (record { mode = 0; depth = s.depth + 1; entities = s.entities; text = s.text }) refl refl _ list text place r
+        (same_held s (record { mode = Regular; depth = s.depth + 1; entities = s.entities; text = s.text }) refl refl _ list text place r
         list' text' groups' (rw (rw t at so) at (rw t at a))))
         (λ t. rw t (rw (rw t at so) at (rw t at a)))
 

@@ -8,14 +8,15 @@ use native.Mathlib.Omega.{arith}
 use lib.Dec.{eqb, ltb}
 use lib.ListN.{length, take-append-drop}
 use borrow.Author.Tests.{eq-eqb, ne_eqb, eqb-true, eqb-false, lt-ltb, le-ltb, ltb-true, ltb-false}
-use Rattle.std.specs.Prelude.{if◌then◌else◌}
+use Rattle.std.specs.Prelude.{if◌then◌else◌, Result}
+use Rattle.chars.specs.declared.refusal.Refusal.{Refusal}
 use Rattle.chars.proofs.Cases.{either}
 use Rattle.entities.specs.Entity.{Entity, bare, size, sizes, texts}
 use Rattle.entities.specs.Making.{Reader, Room, Handled, stops, holds, makes, fitted, shortage}
 use Rattle.entities.specs.Judging.{bares, counting, written, text_written}
-use Rattle.entities.specs.Stepping.{Ready, open_groups, below, room_left, reader_of, agrees, Goes, Stops, took, Fits, short, room}
+use Rattle.entities.specs.Stepping.{Ready, open_groups, below, room_left, reader_of, agrees, Goes, Stops, took, Fits, short, room, bracketed, commanded}
 use Rattle.entities.specs.declared.state.State.{State}
-use Rattle.entities.specs.declared.state.Step.{Step}
+use Rattle.entities.specs.declared.state.Mode.{Mode}
 use Rattle.entities.proofs.Listing.{no_bare, one_bare}
 use Rattle.entities.proofs.Shortages.{fits}
 
@@ -129,10 +130,10 @@ module _ (s : State) (list text groups groups' : List ℕ) (place lead : ℕ) (o
         rw (empty_sizes all x, empty_texts all x, same) (sym (take-append-drop s.text text))
 
     pub fits_agrees :
-        (mode depth : ℕ) (list' : List ℕ) (r : Step) → Fits s list all mode depth list' r
-        → q ≡ record { metacommand = eqb mode 2; opened = eqb mode 1; groups = open_groups groups' depth }
+        (mode : Mode) (depth : ℕ) (list' : List ℕ) (r : Result State Refusal) → Fits s list all mode depth list' r
+        → q ≡ record { metacommand = commanded mode; opened = bracketed mode; groups = open_groups groups' depth }
         → depth ≤ 64 → length groups' ≡ 64 → below (open_groups groups' depth) (place + 2)
-        → agrees comes (took r) s list text list' text groups' place
+        → agrees comes (took s r) s list text list' text groups' place
     unfolding took reader_of
     fits_agrees mode depth list' r (short few is same) eq deep long numbers =
         let scarcely : scarce ≡ 18 =

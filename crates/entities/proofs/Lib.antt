@@ -1,4 +1,5 @@
 pub mod Computes
+pub mod Modes
 pub mod Listing
 pub mod OpenGroups
 pub mod Cutting

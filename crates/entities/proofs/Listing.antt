@@ -4,23 +4,16 @@ use mathlib.Core.Path.{◌≡◌, refl, sym, ◌∙◌, ap}
 use mathlib.Core.List.{List, [], ◌∷◌, ◌++◌, append_assoc}
 use Prim.Native.Nat.{ℕ, ◌+◌, ◌*◌, ◌≤◌}
 use native.Mathlib.Omega.{arith}
-use native.Mathlib.Numerals.{add-one, add-two, add-three, add-four, add_five}
 use lib.Dec.{leb, eqb}
-use lib.ListN.{length, take, drop, set, length-append, length-drop, take-append-drop}
-use lib.Seq.{sets-eq, length-take-le, take_at, drop_at, drop-drop}
+use lib.ListN.{length, take, drop, length-append, length-drop, take-append-drop}
+use lib.Seq.{length-take-le, take_at, drop_at, drop-drop}
 use borrow.Author.Tests.{eqb-true, eq-eqb, ne_eqb, le-leb}
 use Rattle.tokens.proofs.Table.{holds, if_then, so}
+use Rattle.holding.specs.Kind.{kind_code}
+use Rattle.holding.specs.declared.rows.Kind.{Kind}
+use Rattle.holding.specs.declared.rows.Kind.TheVariants.{BeginMetacommand, EndMetacommand, MetacommandToken, MetacommandQuoted, MetacommandCurly, BeginGroup, EndGroup, Array, Number, QuotedString, CurlyString, DefineVariable, DefineConstant, Get, Put, Operation, End}
 use Rattle.entities.specs.Entity.{Entity, kind_number, bare, size, sizes, texts, rows}
 use Rattle.entities.specs.Judging.{kind_of, bares, written, text_written}
-
--- six stores in a row
-pub six :
-    (l : List ℕ) (at a b c d e f : ℕ) → at + 6 ≤ length l
-    → set (set (set (set (set (set l at a) (at + 1) b) (at + 2) c) (at + 3) d) (at + 4) e) (at + 5) f
-    ≡ take at l ++ ((a ∷ b ∷ c ∷ d ∷ e ∷ f ∷ []) ++ drop (at + 6) l)
-six l at a b c d e f h =
-    rw (add_five, add-four, add-three, add-two, add-one)
-    (sets-eq (a ∷ b ∷ c ∷ d ∷ e ∷ f ∷ []) l at h ∙ append_assoc (take at l) (a ∷ b ∷ c ∷ d ∷ e ∷ f ∷ []) (drop (at + 6) l))
 
 -- the number of a number's kind is that number
 pub number_of_kind : (k : ℕ) → 1 ≤ k → k ≤ 17 → kind_number (kind_of k) ≡ k
@@ -30,6 +23,27 @@ number_of_kind k g h =
     (so (leb 1 k) (eqb (kind_number (kind_of k)) k)
     (holds (λ j. if_then (leb 1 j) (eqb (kind_number (kind_of j)) j)) 18 refl k (omega arith))
     (le-leb 1 k g))
+
+-- and so of a kind as the code names it
+pub number_of_code : (k : Kind) → kind_number (kind_of (kind_code k)) ≡ kind_code k
+unfolding kind_number kind_of kind_code
+number_of_code BeginMetacommand = refl
+number_of_code EndMetacommand = refl
+number_of_code MetacommandToken = refl
+number_of_code MetacommandQuoted = refl
+number_of_code MetacommandCurly = refl
+number_of_code BeginGroup = refl
+number_of_code EndGroup = refl
+number_of_code Array = refl
+number_of_code Number = refl
+number_of_code QuotedString = refl
+number_of_code CurlyString = refl
+number_of_code DefineVariable = refl
+number_of_code DefineConstant = refl
+number_of_code Get = refl
+number_of_code Put = refl
+number_of_code Operation = refl
+number_of_code End = refl
 
 pub no_bare : (kind place : ℕ) → kind ≡ 0 → bares kind place ≡ []
 unfolding bares

@@ -8,26 +8,23 @@ use native.Mathlib.Omega.{arith}
 use contract.Lifetimes.{Lfts}
 use borrow.Fn.Kinds.{Dens, ended_of}
 use denote.Triple.Clauses.{AtExit}
+use Rattle.std.specs.Prelude.{Result}
+use Rattle.chars.specs.declared.refusal.Refusal.{Refusal}
 use Rattle.chars.proofs.Only.{one, with_buffer, OneAnswer, OneOutcome}
 use Rattle.entities.specs.Entity.{Entity}
 use Rattle.entities.specs.Making.{Handled, stops, holds}
 use Rattle.entities.specs.Stepping.{Fits, short, room, Ready, Took, Goes, Stops, took, agrees, Ruled}
 use Rattle.entities.specs.declared.state.State.{State}
-use Rattle.entities.specs.declared.state.Step.{Step}
+use Rattle.entities.specs.declared.state.Mode.{Mode}
 use Rattle.entities.proofs as fn
-
-pub refusal : OneAnswer fn.bare.stops.Kinds.ps fn.bare.stops.Kinds.r fn.bare.stops.Reads.Post
-refusal κs given a b x y = one
-
-pub goes : OneAnswer fn.bare.goes.Kinds.ps fn.bare.goes.Kinds.r fn.bare.goes.Reads.Post
-goes κs given a b x y = one
 
 pub array_begins : OneAnswer fn.arrays.array_begins.Kinds.ps fn.arrays.array_begins.Kinds.r fn.arrays.array_begins.Reads.Post
 array_begins κs given a b x y = one
 
 -- what fits is written, and else 18
 fit :
-    (s : State) (list : List ℕ) (es : List Entity) (mode depth : ℕ) (l m : List ℕ) (a b : Step) → Fits s list es mode depth l a
+    (s : State) (list : List ℕ) (es : List Entity) (mode : Mode) (depth : ℕ) (l m : List ℕ) (a b : Result State Refusal)
+    → Fits s list es mode depth l a
     → Fits s list es mode depth m b → (a ≡ b) × (l ∷ [] ≡ m ∷ [])
 fit s list es mode depth l m a b (short few p q) (short few' p' q') = with_buffer (p, q) (p', q')
 fit s list es mode depth l m a b (short few p q) (room many q' p') = absurd (omega (arith, few, many))
@@ -74,57 +71,58 @@ agreed_bare h a b s list text l t g m u k place p q =
 
 -- and of one whose byte tells its rules
 by_its_rules :
-    (c : ℕ) (s : State) (list groups text : List ℕ) (place : ℕ) (a b : Step) (l g m k : List ℕ) → Ready s list text groups place
-    → Ruled c 0 s list groups place a l g → Ruled c 0 s list groups place b m k → Same (took a) (took b) × (l ≡ m)
+    (c : ℕ) (s : State) (list groups text : List ℕ) (place : ℕ) (a b : Result State Refusal) (l g m k : List ℕ)
+    → Ready s list text groups place
+    → Ruled c 0 s list groups place a l g → Ruled c 0 s list groups place b m k → Same (took s a) (took s b) × (l ≡ m)
 unfolding Ruled
 by_its_rules c s list groups text place a b l g m k ready p q =
-    agreed_bare _ (took a) (took b) _ _ _ _ _ _ _ _ _ _ (p (c ∷ []) text refl ready) (q (c ∷ []) text refl ready)
+    agreed_bare _ (took s a) (took s b) _ _ _ _ _ _ _ _ _ _ (p (c ∷ []) text refl ready) (q (c ∷ []) text refl ready)
 
 -- These ask for what is held so far, and their contracts speak of any text buffer that it fits: with one there are no two answers.
 pub metacommand_begins :
-    (κs : Lfts 2) (given : Dens κs fn.metacommands.metacommand_begins.Kinds.ps) (a b : Step)
+    (κs : Lfts 2) (given : Dens κs fn.metacommands.metacommand_begins.Kinds.ps) (a b : Result State Refusal)
     (x y : AtExit (ended_of 2 fn.metacommands.metacommand_begins.Kinds.ps fn.metacommands.metacommand_begins.Kinds.r) κs) (text : List ℕ)
     → Ready given.1.1.0 given.0.now text given.1.0.now given.1.1.1.0
     → fn.metacommands.metacommand_begins.Reads.Post κs given a x → fn.metacommands.metacommand_begins.Reads.Post κs given b y
-    → Same (took a) (took b) × (x.0.now ≡ y.0.now)
+    → Same (took given.1.1.0 a) (took given.1.1.0 b) × (x.0.now ≡ y.0.now)
 metacommand_begins κs given a b x y text ready p q = by_its_rules 0x25 _ _ _ text _ a b _ _ _ _ ready p q
 
 pub metacommand_ends :
-    (κs : Lfts 2) (given : Dens κs fn.metacommands.metacommand_ends.Kinds.ps) (a b : Step)
+    (κs : Lfts 2) (given : Dens κs fn.metacommands.metacommand_ends.Kinds.ps) (a b : Result State Refusal)
     (x y : AtExit (ended_of 2 fn.metacommands.metacommand_ends.Kinds.ps fn.metacommands.metacommand_ends.Kinds.r) κs) (text : List ℕ)
     → Ready given.1.1.0 given.0.now text given.1.0.now given.1.1.1.0
     → fn.metacommands.metacommand_ends.Reads.Post κs given a x → fn.metacommands.metacommand_ends.Reads.Post κs given b y
-    → Same (took a) (took b) × (x.0.now ≡ y.0.now)
+    → Same (took given.1.1.0 a) (took given.1.1.0 b) × (x.0.now ≡ y.0.now)
 metacommand_ends κs given a b x y text ready p q = by_its_rules 0x3B _ _ _ text _ a b _ _ _ _ ready p q
 
 pub group_begins :
-    (κs : Lfts 2) (given : Dens κs fn.groups.group_begins.Kinds.ps) (a b : Step)
+    (κs : Lfts 2) (given : Dens κs fn.groups.group_begins.Kinds.ps) (a b : Result State Refusal)
     (x y : AtExit (ended_of 2 fn.groups.group_begins.Kinds.ps fn.groups.group_begins.Kinds.r) κs) (text : List ℕ)
     → Ready given.1.1.0 given.0.now text given.1.0.now given.1.1.1.0
     → fn.groups.group_begins.Reads.Post κs given a x → fn.groups.group_begins.Reads.Post κs given b y
-    → Same (took a) (took b) × (x.0.now ≡ y.0.now)
+    → Same (took given.1.1.0 a) (took given.1.1.0 b) × (x.0.now ≡ y.0.now)
 group_begins κs given a b x y text ready p q = by_its_rules 0x28 _ _ _ text _ a b _ _ _ _ ready p q
 
 pub group_ends :
-    (κs : Lfts 2) (given : Dens κs fn.groups.group_ends.Kinds.ps) (a b : Step)
+    (κs : Lfts 2) (given : Dens κs fn.groups.group_ends.Kinds.ps) (a b : Result State Refusal)
     (x y : AtExit (ended_of 2 fn.groups.group_ends.Kinds.ps fn.groups.group_ends.Kinds.r) κs) (text : List ℕ)
     → Ready given.1.1.0 given.0.now text given.1.0.now given.1.1.1.0
     → fn.groups.group_ends.Reads.Post κs given a x → fn.groups.group_ends.Reads.Post κs given b y
-    → Same (took a) (took b) × (x.0.now ≡ y.0.now)
+    → Same (took given.1.1.0 a) (took given.1.1.0 b) × (x.0.now ≡ y.0.now)
 group_ends κs given a b x y text ready p q = by_its_rules 0x29 _ _ _ text _ a b _ _ _ _ ready p q
 
 pub element_ends :
-    (κs : Lfts 2) (given : Dens κs fn.arrays.element_ends.Kinds.ps) (a b : Step)
+    (κs : Lfts 2) (given : Dens κs fn.arrays.element_ends.Kinds.ps) (a b : Result State Refusal)
     (x y : AtExit (ended_of 2 fn.arrays.element_ends.Kinds.ps fn.arrays.element_ends.Kinds.r) κs) (text : List ℕ)
     → Ready given.1.1.0 given.0.now text given.1.0.now given.1.1.1.0
     → fn.arrays.element_ends.Reads.Post κs given a x → fn.arrays.element_ends.Reads.Post κs given b y
-    → Same (took a) (took b) × (x.0.now ≡ y.0.now)
+    → Same (took given.1.1.0 a) (took given.1.1.0 b) × (x.0.now ≡ y.0.now)
 element_ends κs given a b x y text ready p q = by_its_rules 0x2C _ _ _ text _ a b _ _ _ _ ready p q
 
 pub array_ends :
-    (κs : Lfts 2) (given : Dens κs fn.arrays.array_ends.Kinds.ps) (a b : Step)
+    (κs : Lfts 2) (given : Dens κs fn.arrays.array_ends.Kinds.ps) (a b : Result State Refusal)
     (x y : AtExit (ended_of 2 fn.arrays.array_ends.Kinds.ps fn.arrays.array_ends.Kinds.r) κs) (text : List ℕ)
     → Ready given.1.1.0 given.0.now text given.1.0.now given.1.1.1.0
     → fn.arrays.array_ends.Reads.Post κs given a x → fn.arrays.array_ends.Reads.Post κs given b y
-    → Same (took a) (took b) × (x.0.now ≡ y.0.now)
+    → Same (took given.1.1.0 a) (took given.1.1.0 b) × (x.0.now ≡ y.0.now)
 array_ends κs given a b x y text ready p q = by_its_rules 0x5D _ _ _ text _ a b _ _ _ _ ready p q

@@ -1,7 +1,10 @@
 -- What the code keeps between tokens, and what one token does to it, in the words of Making. Nothing here says more of the format than
 -- Making does.
-use Rattle.std.specs.Prelude.{ℕ, zero, suc, ◌+◌, ◌-◌, ◌*◌, ◌<◌, ◌≤◌, ◌/◌, ◌≡◌, Bool, true, false, not, ◌&&◌, ◌||◌, List, [], ◌∷◌, leb, eqb, length, get_or, take, drop, if◌then◌else◌}
+use Rattle.std.specs.Prelude.{ℕ, zero, suc, ◌+◌, ◌-◌, ◌*◌, ◌<◌, ◌≤◌, ◌/◌, ◌≡◌, Bool, true, false, not, ◌&&◌, ◌||◌, List, [], ◌∷◌, leb, eqb, length, get_or, take, drop, if◌then◌else◌, Result, Ok, Err}
 use Rattle.chars.specs.Limits.{limits}
+use Rattle.chars.specs.Refusal.{number_of}
+use Rattle.chars.specs.declared.refusal.Refusal.{Refusal}
+use Rattle.chars.specs.declared.refusal.Refusal.TheVariants.{SemicolonOutside, NoGroup, TooManyGroups, ListFull, TextFull}
 use Rattle.chars.specs.Stream.{stream_at, clean}
 use Rattle.tokens.specs.Tokens.{simple, quoted, curly}
 use Rattle.tokens.specs.Runs.{class_of}
@@ -10,7 +13,8 @@ use Rattle.entities.specs.Entity.{Entity, sizes}
 use Rattle.entities.specs.Making.{Reader, Judged, Room, Handled, stops, holds, fitted, handled, closing, judged, judged_last}
 use Rattle.entities.specs.Judging.{bares, one, written, text_written}
 use Rattle.entities.specs.declared.state.State.{State}
-use Rattle.entities.specs.declared.state.Step.{Step}
+use Rattle.entities.specs.declared.state.Mode.{Mode}
+use Rattle.entities.specs.declared.state.Mode.TheVariants.{Regular, Bracket, Metacommand}
 
 -- the open groups, innermost first
 unfoldable pub open_groups : (array : List ℕ) → (depth : ℕ) → List ℕ
@@ -33,10 +37,21 @@ judged_as sort r place text string =
 unfoldable pub closing_as : (sort : ℕ) → (text : List ℕ) → Bool
 closing_as sort text = if eqb sort 0 then closing simple text else false
 
--- what the tokens so far leave open: the mode is 1 right behind `[`, 2 in a metacommand, and else 0
+-- whether the token before was `[`, and whether a metacommand is open
+abbrev pub bracketed : Mode → Bool
+bracketed Regular = false
+bracketed Bracket = true
+bracketed Metacommand = false
+
+abbrev pub commanded : Mode → Bool
+commanded Regular = false
+commanded Bracket = false
+commanded Metacommand = true
+
+-- what the tokens so far leave open
 unfoldable pub reader_of : State → (groups : List ℕ) → Reader
 reader_of s groups =
-    record { metacommand = eqb s.mode 2; opened = eqb s.mode 1; groups = open_groups groups s.depth }
+    record { metacommand = commanded s.mode; opened = bracketed s.mode; groups = open_groups groups s.depth }
 
 -- the room that is left
 unfoldable pub room_left : State → (list text : List ℕ) → Room
@@ -73,8 +88,9 @@ pub data Took : Type 0 where
   Goes : State → Took
   Stops : ℕ → State → Took
 
-unfoldable pub took : Step → Took
-took r = if eqb r.number 0 then Goes r.state else Stops r.number r.state
+unfoldable pub took : State → Result State Refusal → Took
+took s (Ok t) = Goes t
+took s (Err r) = Stops (number_of r) s
 
 -- What one token did, against what Making says of it: the same refusal and nothing written, or the same entities written, the same room
 -- left and the same left open.
@@ -98,25 +114,25 @@ unfoldable pub sorted : (sort prefix n : ℕ) → Type 0
 sorted sort prefix n = (sort ≡ 0 → 1 ≤ prefix) × ((sort ≡ 1 → ⊥) → (sort ≡ 2 → ⊥) → n ≡ 0)
 
 -- A token whose entities have no text: 18 and nothing written where they do not fit, else they are written behind those held.
-pub data Fits (s : State) (list : List ℕ) (es : List Entity) (mode depth : ℕ) (list' : List ℕ) (r : Step) : Type 0 where
+pub data Fits (s : State) (list : List ℕ) (es : List Entity) (mode : Mode) (depth : ℕ) (list' : List ℕ)
+    (r : Result State Refusal) : Type 0 where
   short :
-      length list < 6 * (s.entities + length es) → r ≡ record { number = 18; state = s } → list' ≡ list
+      length list < 6 * (s.entities + length es) → r ≡ Err ListFull → list' ≡ list
       → Fits s list es mode depth list' r
   room :
       6 * (s.entities + length es) ≤ length list → list' ≡ written list s.entities s.text es
-      → r
-      ≡ record { number = 0; state = record { mode = mode; depth = depth; entities = s.entities + length es; text = s.text } }
+      → r ≡ Ok (record { mode = mode; depth = depth; entities = s.entities + length es; text = s.text })
       → Fits s list es mode depth list' r
 
 -- What its own rules make of a simple token whose first byte is `c`, behind an inserted begin group (`lead` is 6) or none (0), where it has
 -- no text.
 unfoldable pub Ruled :
-    (c lead : ℕ) → State → (list groups : List ℕ) → (place : ℕ) → Step → (list' groups' : List ℕ) → Type 0
+    (c lead : ℕ) → State → (list groups : List ℕ) → (place : ℕ) → Result State Refusal → (list' groups' : List ℕ) → Type 0
 Ruled c lead s list groups place r list' groups' =
     (T text : List ℕ) → get_or T 0 0 ≡ c → Ready s list text groups place
     → agrees
     (fitted (room_left s list text) (bares lead place) (judged_as 0 (reader_of s groups) place T []))
-    (took r)
+    (took s r)
     s
     list
     text
@@ -137,7 +153,7 @@ worded metacommand c = if metacommand then not (eqb c 0x25 || eqb c 0x3B) else n
 unfoldable pub entered_by : (brings : Bool) → State → State
 entered_by brings s =
     if brings
-    then record { mode = 0; depth = s.depth + 1; entities = s.entities; text = s.text }
+    then record { mode = Regular; depth = s.depth + 1; entities = s.entities; text = s.text }
     else s
 
 unfoldable pub entered_groups : (brings : Bool) → (groups : List ℕ) → List ℕ
@@ -150,46 +166,47 @@ lead_of brings = if brings then 6 else 0
 unfoldable pub led_by : (brings : Bool) → State → State
 led_by brings s =
     if brings
-    then record { mode = 0; depth = s.depth + 1; entities = s.entities + 1; text = s.text }
+    then record { mode = Regular; depth = s.depth + 1; entities = s.entities + 1; text = s.text }
     else s
 
 -- the begin group that a token brings is written, or none
-pub record Leads (brings : Bool) (s : State) (list groups : List ℕ) (place : ℕ) (r : Step) (list' groups' : List ℕ) : Type 0 where
+pub record Leads (brings : Bool) (s : State) (list groups : List ℕ) (place : ℕ) (r : Result State Refusal)
+    (list' groups' : List ℕ) : Type 0 where
   pub shallow : brings ≡ true → s.depth < 64
-  pub is : r ≡ record { number = 0; state = led_by brings s }
+  pub is : r ≡ Ok (led_by brings s)
   pub list_is : list' ≡ written list s.entities s.text (bares (lead_of brings) place)
   pub array : length groups' ≡ 64
   pub opens : open_groups groups' (entered_by brings s).depth ≡ entered_groups brings (open_groups groups s.depth)
 
 -- Before a token with `size` bytes of text and data is written: 17, 18 or 19 with nothing written; or there is room for all of it, and the
 -- begin group that it brings is written.
-pub data Roomed (s : State) (list text groups : List ℕ) (place size : ℕ) (r : Step) (list' groups' : List ℕ) : Type 0 where
+pub data Roomed (s : State) (list text groups : List ℕ) (place size : ℕ) (r : Result State Refusal) (list' groups' : List ℕ) : Type 0 where
   crowded :
-      (eqb s.mode 1 && leb 64 s.depth) ≡ true → r ≡ record { number = 17; state = s } → list' ≡ list
+      (bracketed s.mode && leb 64 s.depth) ≡ true → r ≡ Err TooManyGroups → list' ≡ list
       → Roomed s list text groups place size r list' groups'
   full :
-      (eqb s.mode 1 ≡ true → s.depth < 64) → length list - 6 * s.entities < 6 * (one (lead_of (eqb s.mode 1)) + 1)
-      → r ≡ record { number = 18; state = s } → list' ≡ list → Roomed s list text groups place size r list' groups'
+      (bracketed s.mode ≡ true → s.depth < 64) → length list - 6 * s.entities < 6 * (one (lead_of (bracketed s.mode)) + 1)
+      → r ≡ Err ListFull → list' ≡ list → Roomed s list text groups place size r list' groups'
   long :
-      (eqb s.mode 1 ≡ true → s.depth < 64) → 6 * (one (lead_of (eqb s.mode 1)) + 1) ≤ length list - 6 * s.entities
-      → length text - s.text < size → r ≡ record { number = 19; state = s } → list' ≡ list
+      (bracketed s.mode ≡ true → s.depth < 64) → 6 * (one (lead_of (bracketed s.mode)) + 1) ≤ length list - 6 * s.entities
+      → length text - s.text < size → r ≡ Err TextFull → list' ≡ list
       → Roomed s list text groups place size r list' groups'
   roomy :
-      Leads (eqb s.mode 1) s list groups place r list' groups'
-      → 6 * (one (lead_of (eqb s.mode 1)) + 1) ≤ length list - 6 * s.entities → size ≤ length text - s.text
+      Leads (bracketed s.mode) s list groups place r list' groups'
+      → 6 * (one (lead_of (bracketed s.mode)) + 1) ≤ length list - 6 * s.entities → size ≤ length text - s.text
       → Roomed s list text groups place size r list' groups'
 
 -- whether a token alone brings a begin group
-abbrev pub brings_by : (mode c : ℕ) → Bool
-brings_by mode c = eqb mode 1 && not (eqb c 0x5D)
+abbrev pub brings_by : (mode : Mode) → (c : ℕ) → Bool
+brings_by mode c = bracketed mode && not (eqb c 0x5D)
 
--- what such a token is refused with by its own rules, with that group open, or 0; and how many entities it then has
-unfoldable pub refused_behind : (c depth : ℕ) → ℕ
+-- what such a token is refused with by its own rules, with that group open; and how many entities it has where it is not
+unfoldable pub refused_behind : (c depth : ℕ) → Result (Unit {0}) Refusal
 refused_behind c depth =
-    if eqb c 0x29 then 14
-    else if eqb c 0x3B then 11
-    else if eqb c 0x28 then if leb 64 (depth + 1) then 17 else 0
-    else 0
+    if eqb c 0x29 then Err NoGroup
+    else if eqb c 0x3B then Err SemicolonOutside
+    else if eqb c 0x28 then if leb 64 (depth + 1) then Err TooManyGroups else Ok tt
+    else Ok tt
 
 unfoldable pub own_behind : (c : ℕ) → ℕ
 own_behind c = if eqb c 0x5B then 0 else if eqb c 0x2C then 2 else 1
@@ -211,12 +228,12 @@ Told c s list groups place took list' groups' =
 
 -- Before a token alone is ruled: it is refused for the begin group that it brings, or behind it; or nothing can refuse it any more where it
 -- brings one, and that is written.
-pub data Led (c : ℕ) (s : State) (list groups : List ℕ) (place : ℕ) (r : Step) (list' groups' : List ℕ) : Type 0 where
+pub data Led (c : ℕ) (s : State) (list groups : List ℕ) (place : ℕ) (r : Result State Refusal) (list' groups' : List ℕ) : Type 0 where
   refused :
-      (n : ℕ) → (n ≡ 0 → ⊥) → r ≡ record { number = n; state = s } → Told c s list groups place (Stops n s) list' groups'
+      (e : Refusal) → r ≡ Err e → Told c s list groups place (Stops (number_of e) s) list' groups'
       → Led c s list groups place r list' groups'
   leads :
       Leads (brings_by s.mode c) s list groups place r list' groups'
       → (brings_by s.mode c ≡ true
-      → (refused_behind c s.depth ≡ 0) × (6 * (s.entities + 1 + own_behind c) ≤ length list))
+      → (refused_behind c s.depth ≡ Ok tt) × (6 * (s.entities + 1 + own_behind c) ≤ length list))
       → Led c s list groups place r list' groups'

@@ -1,11 +1,11 @@
 -- Clean bytes in the text buffer: the copier fills the front of the part that it is lent, and the part goes back into its place, so what
 -- stands before it and behind the new bytes is as it was.
-use mathlib.Core.Path.{◌≡◌, sym, ◌∙◌, ap}
+use mathlib.Core.Path.{◌≡◌, ◌∙◌, ap}
 use mathlib.Core.List.{List, [], ◌++◌, append-nil}
 use Prim.Native.Nat.{ℕ, ◌+◌, ◌-◌, ◌≤◌}
 use native.Mathlib.Omega.{arith}
-use lib.ListN.{length, take, drop, length-drop, take-append-drop}
-use lib.Seq.{take_all, drop-drop, drop-length}
+use lib.ListN.{length, take, drop, length-drop}
+use lib.Seq.{length-take-le, take_all, drop-drop, drop-length}
 use borrow.Author.Tests.{le-ltb}
 use borrow.Rule.Slice.PartMut.{put_mid, post_of, Post-is}
 use Rattle.chars.specs.Stream.{stream_at, clean}
@@ -30,10 +30,10 @@ part_filled new n text used part h is =
     let none : post_of used (length text - used) text ≡ [] = Post-is used (length text) text (omega arith) ∙ drop-length text in
     ap (λ l. take used text ++ l) (rw (none, append-nil) whole)
 
--- no bytes at all
-pub none_filled :
-    (bytes : List ℕ) (n : ℕ) (text : List ℕ) (used : ℕ) → n ≡ 0
-    → text ≡ take used text ++ (take n bytes ++ drop (used + n) text)
-none_filled bytes n text used e =
-    let same : used + 0 ≡ used = omega arith in
-    rw (e, same) (sym (take-append-drop used text))
+-- the same with bytes from a longer list
+pub part_taken :
+    (bytes : List ℕ) (n : ℕ) (text : List ℕ) (used : ℕ) (part : List ℕ) → n ≤ length bytes → used + n ≤ length text
+    → part ≡ take n bytes ++ drop (length (take n bytes)) (take (length text - used) (drop used text))
+    → put_mid used (length text - used) text part ≡ take used text ++ (take n bytes ++ drop (used + n) text)
+part_taken bytes n text used part l h is =
+    part_filled (take n bytes) n text used part h (is ∙ rw (length-take-le n bytes l))

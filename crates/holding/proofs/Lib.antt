@@ -1,3 +1,4 @@
+pub mod Coded
 pub mod Over
 pub mod Filling
 pub mod Returns

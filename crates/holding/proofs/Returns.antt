@@ -10,12 +10,9 @@ use lib.Dec.{eqb}
 use lib.ListN.{length, get_or, take, drop, length-append, length-drop, take-append-drop}
 use lib.Seq.{length-take-le, take-add, drop-drop, drop-cons, get_or-take, get_or-drop}
 use borrow.Author.Tests.{ne_eqb, eqb-true}
+use Rattle.chars.specs.Character.{Character, Clean, Refused, End, Sequence, Whole, Malformed}
 use Rattle.chars.specs.Character.{high, low, sequence, judged, carriage, character, character_at, encoded}
 use Rattle.chars.specs.Stream.{stream_at, clean}
-use Rattle.chars.specs.declared.Character.{Character}
-use Rattle.chars.specs.declared.Character.TheVariants.{Clean, Refused, End}
-use Rattle.chars.specs.declared.Sequence.{Sequence}
-use Rattle.chars.specs.declared.Sequence.TheVariants.{Whole, Malformed}
 use Rattle.chars.proofs.Cases.{by_test, by_bound}
 use Rattle.chars.proofs.Characters.{refused, ended}
 use Rattle.chars.proofs.Extent.{within_true, sequence_sound, three_bytes, by_range, encoded_one, encoded_two, encoded_three, encoded_four}

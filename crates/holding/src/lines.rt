@@ -2,7 +2,7 @@
 ghost use Rattle.std.specs.Prelude.{◌≡◌, ◌++◌, ◌≤◌, length, drop};
 ghost use Rattle.chars.specs.Stream.{stream_at, clean};
 
-use crate::copy::long;
+use crate::copy::front;
 use copying::{copy, pair_within, put_four};
 use runs::settled::past_settled;
 
@@ -14,30 +14,27 @@ pub fn lines(draft: &[u8], from: usize, n: usize, out: &mut [u8])
     ensures { out.new ≡ clean n (stream_at draft.now from) ++ drop n out.old }
 {
     if draft[from] == 0xED {
-        copy(&draft[..], from, n, out);
+        // The part has room for them: the copier does not refuse it, here and below.
+        let _ = copy(&draft[..], from, n, out);
         return;
     }
     let mut i = from;
     let mut k: usize = 0;
     loop {
         let r = past_settled(&draft[..], i, i + (n - k));
-        let m = r - i;
-        long(&draft[..], i, m, &mut out[k..]);
-        k += m;
+        front(&draft[i..r], &mut out[k..]);
+        k += r - i;
         if k == n {
             return;
         }
         if draft[r] == 0x0D {
             i = r + 1;
         } else {
-            let two = pair_within(&draft[..], r, n - k);
-            if two == 0 {
-                copy(&draft[..], r, n - k, &mut out[k..]);
+            let Some(two) = pair_within(&draft[..], r, n - k) else {
+                let _ = copy(&draft[..], r, n - k, &mut out[k..]);
                 return;
-            }
-            let four = chars::encode(two);
-            let bytes = four.bytes;
-            put_four(out, k, bytes);
+            };
+            put_four(out, k, chars::encode(two).bytes);
             k += 4;
             if k == n {
                 return;

@@ -3,7 +3,7 @@
 
 #![tactic(auto)]
 
-ghost use Rattle.std.specs.Prelude.{◌+◌, ◌*◌, ◌≤◌, length};
+ghost use Rattle.std.specs.Prelude.{◌*◌, ◌≤◌, length};
 
 use chars::limits;
 use input::read_full;
@@ -15,39 +15,25 @@ const NUMBERS: usize = 12000;
 
 const TEXT: usize = 16384;
 
-// The entity whose six numbers begin at `at`: place, kind, text length, data length, count.
-fn write_entity(rt: &impl Print, list: &[u32], at: usize) -> io::Result<()>
-    requires { at + 6 ≤ length list.now }
-{
-    let place = list[at + 1];
-    let kind = list[at];
-    let text = list[at + 3];
-    let data = list[at + 4];
-    let count = list[at + 5];
-    println!(rt; "{place} {kind} {text} {data} {count}")
-}
-
-// The first `held` entities of a list.
-fn write_entities(rt: &impl Print, list: &[u32], held: u64) -> io::Result<()>
+// A line for each of the first entities of a list: place, kind, text length, data length, count.
+fn write_entities(rt: &impl Print, list: &[u32], held: usize) -> io::Result<()>
     requires { 6 * held ≤ length list.now }
 {
-    let mut i = 0;
-    while i < held {
-        write_entity(rt, list, (6 * i) as usize)?;
-        i += 1;
+    for [kind, place, _, text, data, count] in list[..6 * held].as_chunks::<6>().0 {
+        println!(rt; "{place} {kind} {text} {data} {count}")?;
     }
     Ok(())
 }
 
-// `read N` with the byte after `;`, or `refused N P`.
+// `read N` with the byte after `;`, or `refused N P`: the answer is C's struct, in which the number 0 stands for success.
 fn write_ending(rt: &impl Print, answer: Answer) -> io::Result<()> {
-    let number = answer.number;
-    let place = answer.place;
-    let consumed = answer.consumed;
-    if number == 0 {
-        println!(rt; "read {consumed}")
-    } else {
-        println!(rt; "refused {number} {place}")
+    match answer {
+        Answer {
+            number: 0,
+            consumed,
+            ..
+        } => println!(rt; "read {consumed}"),
+        Answer { number, place, .. } => println!(rt; "refused {number} {place}"),
     }
 }
 
@@ -58,6 +44,6 @@ fn main(rt: HostRuntime) -> io::Result<()> {
     let mut text = [0u8; TEXT];
     let length = read_full(&mut rt.reader(), &mut draft)?;
     let answer = reading::read(&draft[..length], &mut list, &mut text);
-    write_entities(&rt, &list, answer.entities)?;
+    write_entities(&rt, &list, answer.entities as usize)?;
     write_ending(&rt, answer)
 }

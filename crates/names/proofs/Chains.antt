@@ -2,7 +2,7 @@
 use mathlib.Core.Path.{◌≡◌, refl, sym, ◌∙◌, ap}
 use mathlib.Core.Bool.{Bool, true, false}
 use mathlib.Core.List.{List}
-use Prim.Native.Nat.{ℕ, suc, ◌-◌, ◌<◌, ◌≤◌}
+use Prim.Native.Nat.{ℕ, suc, ◌<◌, ◌≤◌}
 use native.Mathlib.Omega.{arith}
 use lib.ListN.{get_or}
 use Rattle.chars.specs.Choice.{same}
@@ -36,23 +36,19 @@ module _ (key : ℕ → List ℕ) (name : List ℕ) (count : ℕ) where
         in_bucket = λ j q. latest_found key (bucket_of name) k j (sym e ∙ q);
       }
 
-  module _ (p : ℕ) (r : Reached key name count p) where
-    -- the end of the chain
-    pub reached_end : p ≡ 0 → 0 ≡ position key name count
-    unfolding position
-    reached_end e = rw e at r.same_found
+  -- the end of the chain
+  pub reached_end : Reached key name count 0 → 0 ≡ position key name count
+  unfolding position
+  reached_end r = r.same_found
 
-    module _ (some : p ≡ 0 → ⊥) where
-      before : p ≡ suc (p - 1)
-      before = omega arith
+  module _ (entry : ℕ) (r : Reached key name count (suc entry)) where
+    -- an entry that has the name
+    pub reached-name : (t : Bool) → t ≡ same name (key entry) → t ≡ true → suc entry ≡ position key name count
+    reached-name t e y = sym (position_here entry (sym y ∙ e)) ∙ r.same_found
 
-      -- an entry that has the name
-      pub reached-name : (t : Bool) → t ≡ same name (key (p - 1)) → t ≡ true → p ≡ position key name count
-      reached-name t e y = before ∙ (sym (position_here (p - 1) (sym y ∙ e)) ∙ (ap (position key name) (sym before) ∙ r.same_found))
-
-      -- an entry that has another one
-      passed : false ≡ same name (key (p - 1)) → position key name (p - 1) ≡ position key name count
-      passed t = sym (position_past (p - 1) t) ∙ (ap (position key name) (sym before) ∙ r.same_found)
+    -- an entry that has another one
+    passed : false ≡ same name (key entry) → position key name entry ≡ position key name count
+    passed t = sym (position_past entry t) ∙ r.same_found
 
 -- from the head of a name's bucket on, and then from each entry to the one before it
 module _ (keys index : List ℕ) (count : ℕ) (i : Indexed keys index count) (name : List ℕ) where
@@ -62,16 +58,16 @@ module _ (keys index : List ℕ) (count : ℕ) (i : Indexed keys index count) (n
       (q ∙ (ap (λ k. get_or index k 0) e ∙ i.heads (bucket_of name) (bucket_most name))) (omega arith) refl
 
   module _
-      (p : ℕ) (r : Reached (key_of keys index) name count p) (some : p ≡ 0 → ⊥) (q : ℕ) (e : q ≡ get_or index (before_at (p - 1)) 0) where
-    before_latest : q ≡ latest (key_of keys index) (bucket_of name) (p - 1)
+      (entry : ℕ) (r : Reached (key_of keys index) name count (suc entry)) (q : ℕ) (e : q ≡ get_or index (before_at entry) 0) where
+    before_latest : q ≡ latest (key_of keys index) (bucket_of name) entry
     before_latest =
-        e ∙ (i.chain (p - 1) (omega arith) ∙ ap (λ b. latest (key_of keys index) b (p - 1)) (r.in_bucket (p - 1) (omega arith)))
+        e ∙ (i.chain entry (omega arith) ∙ ap (λ b. latest (key_of keys index) b entry) (r.in_bucket entry refl))
 
-    pub fewer : q < p
-    fewer = omega (arith, before_latest, latest_most (key_of keys index) (bucket_of name) (p - 1))
+    pub fewer : q < suc entry
+    fewer = omega (arith, before_latest, latest_most (key_of keys index) (bucket_of name) entry)
 
     pub onward :
-        (t : Bool) → t ≡ same name (key_of keys index (p - 1)) → t ≡ false → Reached (key_of keys index) name count q
+        (t : Bool) → t ≡ same name (key_of keys index entry) → t ≡ false → Reached (key_of keys index) name count q
     onward t f n =
-        reached_latest (key_of keys index) name count q (p - 1) before_latest (omega arith)
-        (passed (key_of keys index) name count p r some (sym n ∙ f))
+        reached_latest (key_of keys index) name count q entry before_latest (omega arith)
+        (passed (key_of keys index) name count entry r (sym n ∙ f))

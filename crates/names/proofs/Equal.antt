@@ -5,6 +5,8 @@ use mathlib.Core.List.{List, [], ◌∷◌}
 use Prim.Native.Nat.{ℕ}
 use lib.Dec.{eqb}
 use borrow.Author.Tests.{eq-eqb, eqb-true}
+use Rattle.std.specs.Prelude.{nat_eq}
+use Rattle.std.specs.Cmp.Lexicographic.{pointwise}
 use Rattle.chars.specs.Choice.{same}
 use Rattle.chars.proofs.Cases.{both, either}
 
@@ -26,3 +28,10 @@ same_equal (x ∷ xs) (y ∷ ys) e =
 -- lists that are not equal
 pub unequal_same : (xs ys : List ℕ) → (xs ≡ ys → ⊥) → same xs ys ≡ false
 unequal_same xs ys h = either (same xs ys) (λ t. absurd (h (same_equal xs ys t))) (λ t. t)
+
+-- the library's comparison of slices
+pub compared : (xs ys : List ℕ) → pointwise nat_eq xs ys ≡ same xs ys
+compared [] [] = refl
+compared [] (y ∷ ys) = refl
+compared (x ∷ xs) [] = refl
+compared (x ∷ xs) (y ∷ ys) = rw (compared xs ys)

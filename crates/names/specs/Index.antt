@@ -2,7 +2,7 @@
 -- array has a number for each of 512 buckets, the entry entered last there (counted from 1; 0 for none), and behind these five for each
 -- entry: where the name's bytes begin among the bytes that hold it, how many they are, the entry entered before it in its bucket, and the
 -- two numbers of its mark.
-use Rattle.std.specs.Prelude.{ℕ, zero, suc, ◌+◌, ◌*◌, ◌<◌, ◌≤◌, ◌≡◌, List, eqb, length, get_or, take, drop, set, if◌then◌else◌}
+use Rattle.std.specs.Prelude.{ℕ, zero, suc, ◌+◌, ◌*◌, ◌<◌, ◌≤◌, ◌≡◌, List, Option, Some, None, eqb, length, get_or, take, drop, set, if◌then◌else◌}
 use Rattle.chars.specs.Choice.{same}
 use Rattle.names.specs.Marks.{first_of, last_of, bucket_of}
 use Rattle.names.specs.declared.Mark.{Mark}
@@ -31,6 +31,11 @@ key_of keys index j = take (get_or index (length_at j) 0) (drop (get_or index (b
 unfoldable pub position : (key : ℕ → List ℕ) → (name : List ℕ) → (count : ℕ) → ℕ
 position key name zero = 0
 position key name (suc n) = if same name (key n) then suc n else position key name n
+
+-- an entry that is found, counted from 0 as the code has it
+abbrev pub found_of : Option ℕ → ℕ
+found_of None = 0
+found_of (Some e) = suc e
 
 -- the last of the first `count` entries that is in this bucket, counted from 1; 0 for none
 unfoldable pub latest : (key : ℕ → List ℕ) → (bucket count : ℕ) → ℕ

@@ -1,6 +1,6 @@
 -- The names defined, as the index and `whats` hold them (`sight/Arrays`): what is looked up is the entry that is found, a put leaves
 -- them as they are, since it takes a cell of the kind that the name has, and one that is entered is one more.
-use mathlib.Core.Path.{◌≡◌, refl, ◌∙◌, ap, ap₂}
+use mathlib.Core.Path.{◌≡◌, refl, ◌∙◌, ap}
 use mathlib.Core.List.{List, ◌∷◌}
 use mathlib.Core.Option.{none, some}
 use Prim.Native.Nat.{ℕ, zero, suc, ◌+◌, ◌%◌, ◌<◌}
@@ -18,14 +18,7 @@ use Rattle.names.proofs.Positions.{position_agrees}
 use Rattle.names.proofs.Entering.{key_before, key-entered}
 use Rattle.rules.specs.Cells.{lookup, changed}
 use Rattle.rules.specs.Kinds.{Checked, of}
-use Rattle.sight.specs.Row.{text_at_in, text_len_in, text_in}
 use Rattle.sight.specs.Arrays.{name_at, names_of, apart}
-
--- bytes that stand where an entity's text does are that text
-pub its_text :
-    (list text : List ℕ) (i at n : ℕ) → at ≡ text_at_in list i → n ≡ text_len_in list i → take n (drop at text) ≡ text_in list text i
-unfolding text_in
-its_text list text i at n e f = ap₂ (λ n at. take n (drop at text)) f e
 
 pub so_many_names : (text index whats : List ℕ) (n : ℕ) → length (names_of text index whats n) ≡ n
 unfolding names_of

@@ -5,16 +5,19 @@ use mathlib.Core.List.{List, [], ◌∷◌, ◌++◌}
 use Prim.Native.Nat.{ℕ, suc, ◌+◌, ◌<◌, ◌≤◌}
 use native.Mathlib.Omega.{arith}
 use native.Mathlib.Numerals.{add-one}
-use lib.ListN.{length, get_or, set, take, drop, length-set, length-drop}
-use lib.Seq.{length-take-le, take-suc, get_or-drop, get_or-take}
+use lib.ListN.{length, get_or, set, take, length-set}
+use lib.Seq.{length-take-le, take-suc}
 use Rattle.chars.specs.Limits.{limits}
 use Rattle.rules.specs.Cells.{leaves, give, given}
 use Rattle.rules.specs.Kinds.{Checked, of, kinds}
-use Rattle.sight.specs.Arrays.{sight_of, hidden_of, state_of, stacked, Standing, Hiding, Agrees}
+use Rattle.sight.specs.Arrays.{sight_of, hidden_of, state_of, stacked, Standing, Hiding}
+use Rattle.sight.specs.Stacks.{Agrees}
+use Rattle.sight.specs.declared.Stack.{Stack}
 use Rattle.operations.specs.Taken.{laid}
 use Rattle.sight.specs.declared.Counts.{Counts}
-use Rattle.sight.specs.declared.Move.TheVariants.{Goes, Stops}
-use Rattle.sight.proofs.Sight.{small_cell, so_many, sight_pushed, hidden_past, too_many, not_many}
+use Rattle.chars.specs.declared.refusal.Refusal.TheVariants.{TooManyCells}
+use Rattle.std.specs.Prelude.{Ok, Err}
+use Rattle.sight.proofs.Sight.{stack, small_cell, so_many, sight_pushed, hidden_past, too_many, not_many}
 
 laid_length : (cells : List ℕ) (top : ℕ) (ks : List ℕ) → length (laid cells top ks) ≡ length cells
 unfolding laid
@@ -31,18 +34,13 @@ laid_behind cells top (j ∷ ks) k =
     let there : top + suc (length ks) ≡ top + 1 + length ks = omega arith in
     rw there (laid_behind (set cells top j) (top + 1) ks k)
 
--- the kinds that stand from a place of the table on
-pub so_many_kinds : (table : List ℕ) (from n : ℕ) → from + n ≤ length table → length (take n (drop from table)) ≡ n
-so_many_kinds table from n h = length-take-le n (drop from table) (omega (arith, length-drop from table))
-
--- one more of them
+-- one more of some kinds
 pub laid_next :
-    (cells table : List ℕ) (top from n : ℕ) → from + n < length table
-    → laid cells top (take (n + 1) (drop from table)) ≡ set (laid cells top (take n (drop from table))) (top + n) (get_or table (from + n) 0)
-laid_next cells table top from n h =
-    let inside : n < length (drop from table) = omega (arith, length-drop from table) in
-    let many = so_many_kinds table from n (omega arith) in
-    rw (add-one, take-suc (drop from table) n 0 inside, laid_behind, many, get_or-drop from table n 0)
+    (cells ks : List ℕ) (top n : ℕ) → n < length ks
+    → laid cells top (take (n + 1) ks) ≡ set (laid cells top (take n ks)) (top + n) (get_or ks n 0)
+laid_next cells ks top n h =
+    let many = length-take-le n ks (omega arith) in
+    rw (add-one, take-suc ks n 0 h, laid_behind, many)
 
 -- what lies below them
 hidden_below :
@@ -78,37 +76,29 @@ laid_in_sight step place cells base seen (k ∷ ks) low h =
     (laid_in_sight step (suc place) (set cells (base + seen) k) base (seen + 1) ks (λ i inside. low (suc i) (omega arith))
     (omega (arith, length-set cells (base + seen) k)))
 
--- where those bytes are below 16
-pub kinds_from :
-    (table : List ℕ) (from n : ℕ) → from + n ≤ length table → ((k : ℕ) → k < n → get_or table (from + k) 0 < 16)
-    → Kinds (take n (drop from table))
-kinds_from table from n h low i inside =
-    let below : i < n = omega (arith, so_many_kinds table from n h) in
-    rw (get_or-take n (drop from table) i 0 below, get_or-drop from table i 0) (low i below)
-
 -- Kinds given where so many cells are left in sight: 29 where they are too many, and else they lie above those.
 module _
-    (text cells bases index whats : List ℕ) (s : Counts) (left step n : ℕ) (ks : List ℕ) (many : length ks ≡ n) (g : Hiding bases s) where
+    (text cells bases index whats : List ℕ) (s : Counts) (left step : ℕ) (ks : List ℕ) (g : Hiding bases s) where
   pub not_given :
-      1024 < s.base + left + n
-      → Agrees (given limits kinds step (state_of text cells bases index whats s) ks (leaves (sight_of cells s.base left))) text cells
-      bases index whats (Stops 29)
+      (k : Stack) → 1024 < s.base + left + length ks
+      → Agrees (given limits kinds step (state_of text cells bases index whats s) ks (leaves (sight_of cells s.base left))) text k
+      (Err TooManyCells)
   unfolding given
-  not_given h =
+  not_given k h =
       let sight = sight_of cells s.base left in
       let more = given_length step 0 ks sight in
-      too_many text cells bases index whats s g cells (give limits kinds step 0 ks sight)
+      too_many text cells bases index whats s g k (give limits kinds step 0 ks sight)
       (omega (arith, more, so_many cells s.base left))
 
   pub all_given :
-      Standing text cells index whats s → Kinds ks → s.base + left + n ≤ 1024
+      Standing text cells index whats s → Kinds ks → s.base + left + length ks ≤ 1024
       → Agrees (given limits kinds step (state_of text cells bases index whats s) ks (leaves (sight_of cells s.base left))) text
-      (laid cells (s.base + left) ks) bases index whats
-      (Goes (record { base = s.base; seen = left + n; depth = s.depth; names = s.names }))
+      (stack (laid cells (s.base + left) ks) bases index whats
+      (record { base = s.base; seen = left + length ks; depth = s.depth; names = s.names })) (Ok tt)
   unfolding given
   all_given st low h =
       let top = s.base + left in
       let hidden = hidden_below cells bases top s.base s.depth ks g.hidden (omega arith) in
       let few : s.base + (left + length ks) ≤ 1024 = omega arith in
-      rw (← many, ← laid_in_sight step 0 cells s.base left ks low (omega (arith, st.cells_room)))
+      rw (← laid_in_sight step 0 cells s.base left ks low (omega (arith, st.cells_room)))
       (not_many text cells bases index whats s g st (laid cells top ks) (left + length ks) few (laid_length cells top ks) hidden)

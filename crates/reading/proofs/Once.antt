@@ -1,4 +1,4 @@
--- Reading as `readWith` defines it, computed in one walk over the draft. The definition cuts each token's bytes from the draft's start;
+-- Reading as `read_with` defines it, computed in one walk over the draft. The definition cuts each token's bytes from the draft's start;
 -- here
 -- the bytes from the last token on are carried along, and so is the draft's length. Long drafts are computed with it.
 use mathlib.Core.Path.{◌≡◌, refl, ap}

@@ -1,33 +1,45 @@
 -- One round, by what stands at its place: whitespace and comments leave what is still to be read as it is, a token alone is one that its
 -- byte tells, and any other is what is found there.
 use mathlib.Core.Path.{◌≡◌, refl, sym, ◌∙◌, ap}
-use mathlib.Core.Bool.{true, true≢false}
+use mathlib.Core.Bool.{Bool, true, false, true≢false}
 use mathlib.Core.List.{List, []}
 use Prim.Native.Nat.{ℕ, ◌+◌, ◌-◌, ◌<◌, ◌≤◌}
 use native.Mathlib.Omega.{arith}
 use lib.Dec.{eqb}
 use lib.ListN.{length, get_or}
-use borrow.Author.Tests.{ne_eqb, eqb-true}
+use borrow.Author.Tests.{ne_eqb, eqb-true, eqb-false}
+use Rattle.std.specs.Prelude.{Result, Err}
 use Rattle.chars.specs.Limits.{limits}
+use Rattle.chars.specs.declared.refusal.Refusal.{Refusal}
+use Rattle.chars.specs.declared.refusal.Refusal.TheVariants.{PercentInside}
 use Rattle.chars.specs.Stream.{stream_at, clean}
 use Rattle.chars.proofs.Cases.{either}
 use Rattle.chars.proofs.Streams.{at_end}
 use Rattle.tokens.specs.Sorts.{visible, white, atomic, inclusive}
 use Rattle.tokens.specs.Tokens.{tokens, between, token_at}
-use Rattle.tokens.specs.declared.Token.{Token}
-use Rattle.tokens.specs.declared.Token.TheVariants.{Simple, Quoted, Curly, Last, Refused}
+use Rattle.tokens.specs.Tokens.{Token, Simple, Quoted, Curly, Last, Refused}
 use Rattle.tokens.proofs.Clean.{clean_zero}
+use denote.Enum.Bare.{sameb}
 use Rattle.runs.specs.Bytes.{begins_of, begins_at}
-use Rattle.scan.specs.Found.{piece_of, Finds, passes, tells}
-use Rattle.scan.specs.declared.Piece.{Piece}
+use Rattle.runs.specs.Codes.{begins_code}
+use Rattle.runs.specs.contracts.sorts.Begins.{the_type}
+use Rattle.runs.specs.declared.sorts.Begins.{Begins}
+use Rattle.runs.specs.declared.sorts.Begins.TheVariants.{Nothing, Whitespace, Comment, Atomic, Opening, Bar, Word, RightCurly}
+use Rattle.scan.specs.Found.{Piece, piece_of, Finds, passes, tells}
+use Rattle.scan.specs.Opens.{how_code}
+use Rattle.scan.specs.contracts.How.{the_type as of-how}
+use Rattle.scan.specs.declared.How.{How}
+use Rattle.scan.specs.declared.How.TheVariants.{Simple as SimpleHow, Prefix}
 use Rattle.scan.proofs.Starts.{alone_other}
 use Rattle.entities.specs.Entity.{sizes}
 use Rattle.entities.specs.Making.{fitted, handled, judged, command}
 use Rattle.entities.specs.Judging.{bares}
-use Rattle.entities.specs.Stepping.{Contents, Ready, Steady, room_left, reader_of, agrees, Took, Stops, judged_as}
+use Rattle.entities.specs.Stepping.{Contents, Ready, Steady, room_left, reader_of, agrees, Took, Stops, took, judged_as}
 use Rattle.entities.specs.Stepping.{closing_as}
-use Rattle.entities.specs.Stepping.{structural, worded}
+use Rattle.entities.specs.Stepping.{structural, worded, commanded}
 use Rattle.entities.specs.declared.state.State.{State}
+use Rattle.entities.specs.declared.state.Mode.{Mode}
+use Rattle.entities.specs.declared.state.Mode.TheVariants.{Regular, Bracket, Metacommand}
 use Rattle.entities.proofs.Listing.{written_none, text_none}
 use Rattle.entities.proofs.Cutting.{first_byte}
 use Rattle.reading.specs.Reading.{refusal, before, entities}
@@ -90,12 +102,13 @@ module _ (draft list text groups : List ℕ) (s : State) (at : ℕ) (there : at 
     word_taken = let t = here draft list text groups s at word word_is word_some in (t.short, t.contents)
 
     pub word_on :
-        (r : Took) (list' text' groups' : List ℕ)
+        (r : Result State Refusal) (list' text' groups' : List ℕ)
         → agrees
         (handled limits (room_left s list text) (reader_of s groups) (closing_as 0 (clean (i - at) (stream_at draft at))) at
-        (λ q. judged_as 0 q at (clean (i - at) (stream_at draft at)) (clean 0 (stream_at draft 0)))) r s list text list' text' groups' at
+        (λ q. judged_as 0 q at (clean (i - at) (stream_at draft at)) (clean 0 (stream_at draft 0)))) (took s r) s list text list' text'
+        groups' at
         → length list' ≡ length list → length text' ≡ length text
-        → goes_round draft list text groups s at (behind_of r at i) list' text' groups'
+        → goes_round draft list text groups s at (behind_of (took s r) at i) list' text' groups'
     unfolding piece_of
     word_on r list' text' groups' a l u =
         behind_here draft list text groups s at word word_is word_some list' text' groups' r a l u (λ e. omega arith)
@@ -120,21 +133,22 @@ module _ (draft list text groups : List ℕ) (s : State) (at : ℕ) (there : at 
     first_is = ap (λ l. get_or l 0 0) (first_byte draft at 1 0 0 taken_here.contents (omega arith))
 
     pub alone_on :
-        (r : Took) (list' groups' : List ℕ)
+        (r : Result State Refusal) (list' groups' : List ℕ)
         → ((T : List ℕ) → get_or T 0 0 ≡ get_or draft at 0
-        → agrees (handled limits (room_left s list text) (reader_of s groups) (closing_as 0 T) at (λ q. judged_as 0 q at T [])) r s list text
-        list' text groups' at)
-        → length list' ≡ length list → goes_round draft list text groups s at (behind_of r at (at + 1)) list' text groups'
+        → agrees (handled limits (room_left s list text) (reader_of s groups) (closing_as 0 T) at (λ q. judged_as 0 q at T []))
+        (took s r) s list text list' text groups' at)
+        → length list' ≡ length list → goes_round draft list text groups s at (behind_of (took s r) at (at + 1)) list' text groups'
     unfolding piece_of
     alone_on r list' groups' a l =
         behind_here draft list text groups s at f same some list' text groups' r
         (rw (clean_zero (stream_at draft 0)) (a (clean 1 (stream_at draft at)) first_is)) l refl (λ e. omega arith)
 
-    module _ (commanding : s.mode ≡ 2) where
+    module _ (commanding : s.mode ≡ Metacommand) where
       -- in a metacommand no token brings a group
       pub by_itself :
           (T : List ℕ) (r : Took) (list' groups' : List ℕ)
-          → agrees (fitted (room_left s list text) (bares 0 at) (judged_as 0 (reader_of s groups) at T [])) r s list text list' text groups'
+          → agrees (fitted (room_left s list text) (bares 0 at) (judged_as 0 (reader_of s groups) at T [])) r s list text list' text
+          groups'
           at
           → agrees (handled limits (room_left s list text) (reader_of s groups) (closing_as 0 T) at (λ q. judged_as 0 q at T [])) r s list
           text
@@ -152,8 +166,8 @@ module _ (draft list text groups : List ℕ) (s : State) (at : ℕ) (there : at 
 
       pub again-on :
           get_or draft at 0 ≡ 0x25 → goes_round draft list text groups s at (Over 10 at s 0) list text groups
-      unfolding behind_of
-      again-on e = alone_on (Stops 10 s) list groups (λ T is. by_itself T (Stops 10 s) list groups (twice T (is ∙ e))) refl
+      unfolding took behind_of
+      again-on e = alone_on (Err PercentInside) list groups (λ T is. by_itself T (Stops 10 s) list groups (twice T (is ∙ e))) refl
 
 -- what is found is at most 4, a refusal
 pub piece_sort : (t : Token) → (piece_of t).sort ≤ 4
@@ -177,9 +191,41 @@ pub at_three : (draft : List ℕ) (at : ℕ) → begins_of (get_or draft at 0) �
 unfolding begins_at
 at_three draft at e = rw e
 
+-- the mode in which a metacommand is open
+pub commanding : (m : Mode) → commanded m ≡ true → m ≡ Metacommand
+commanding Regular t = absurd (true≢false (sym t))
+commanding Bracket t = absurd (true≢false (sym t))
+commanding Metacommand t = refl
+
+-- the test of what a byte begins is that of its number
+is_atomic : (b : Begins) → eqb (begins_code b) 3 ≡ sameb the_type b Atomic
+unfolding begins_code
+is_atomic Nothing = refl
+is_atomic Whitespace = refl
+is_atomic Comment = refl
+is_atomic Atomic = refl
+is_atomic Opening = refl
+is_atomic Bar = refl
+is_atomic Word = refl
+is_atomic RightCurly = refl
+
+module _ (b : Begins) (t : Bool) (told : t ≡ sameb the_type b Atomic) where
+  pub atomic_code : t ≡ true → begins_code b ≡ 3
+  atomic_code is = eqb-true (begins_code b) 3 (is_atomic b ∙ (rw told at is))
+
+  pub other_code : t ≡ false → begins_code b ≡ 3 → ⊥
+  other_code is = eqb-false (begins_code b) 3 (is_atomic b ∙ (rw told at is))
+
+-- the test of what a token's own bytes are is that of its number
+pub simple_code : (h : How) (t : Bool) → t ≡ sameb of-how h SimpleHow → t ≡ true → how_code h ≡ 1
+unfolding how_code
+simple_code SimpleHow t told is = refl
+simple_code Prefix t told is = absurd (true≢false (sym is ∙ told))
+
 -- A byte that begins neither a token alone, nor, in a metacommand, `%` or `;`, begins one with text.
 pub with_text :
-    (c mode : ℕ) → (begins_of c ≡ 3 → (mode ≡ 2) × (c ≡ 0x25 → ⊥) × (c ≡ 0x3B → ⊥)) → worded (eqb mode 2) c ≡ true
+    (c : ℕ) (mode : Mode) → (begins_of c ≡ 3 → (mode ≡ Metacommand) × (c ≡ 0x25 → ⊥) × (c ≡ 0x3B → ⊥))
+    → worded (commanded mode) c ≡ true
 unfolding worded structural
 with_text c mode h =
     either (eqb (begins_of c) 3)
@@ -188,7 +234,7 @@ with_text c mode h =
     rw (k.0, ne_eqb c 0x25 k.1, ne_eqb c 0x3B k.2))
     (λ t.
     let other : (d : ℕ) → eqb (begins_of d) 3 ≡ true → c ≡ d → ⊥ = λ d u e. true≢false (sym u ∙ rw e at t) in
-    either (eqb mode 2)
+    either (commanded mode)
     (λ u. rw (u, ne_eqb c 0x25 (other 0x25 command_begins), ne_eqb c 0x3B (other 0x3B command_ends)))
     (λ u. rw (u, t)))
 

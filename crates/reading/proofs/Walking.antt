@@ -7,23 +7,25 @@ use native.Mathlib.Omega.{arith}
 use lib.Dec.{eqb}
 use lib.ListN.{length, drop, length-append}
 use borrow.Author.Tests.{eq-eqb, ne_eqb, lt-ltb, le-ltb}
-use Rattle.std.specs.Prelude.{if◌then◌else◌}
+use Rattle.std.specs.Prelude.{if◌then◌else◌, Result, Ok, Err}
+use Rattle.chars.specs.Refusal.{number_of}
+use Rattle.chars.specs.declared.refusal.Refusal.{Refusal}
 use Rattle.chars.specs.Limits.{limits}
 use Rattle.chars.specs.Stream.{start, stream_at, clean}
 use Rattle.tokens.specs.Tokens.{Sort, simple, quoted, curly, Whole, Tokens, token, last, tokens, between, first, shown, token_at}
 use Rattle.tokens.proofs.OneByOne.{OneByOne, more, final, none, Sound, one_by_one}
 use Rattle.tokens.proofs.Clean.{clean_zero}
 use Rattle.runs.specs.Bytes.{blanks}
-use Rattle.scan.specs.Found.{piece_of}
-use Rattle.scan.specs.declared.Piece.{Piece}
+use Rattle.scan.specs.Found.{Piece, piece_of}
 use Rattle.scan.proofs.Blanks.{behind_blanks}
 use Rattle.holding.specs.Text.{unchanged}
 use Rattle.entities.specs.Entity.{Entity, sizes, texts, rows}
 use Rattle.entities.specs.Making.{Reader, Room, Handled, stops, holds, handled, closing, judged}
 use Rattle.entities.specs.Judging.{written, text_written}
 use Rattle.entities.specs.Stepping.{Contents, Ready, open_groups, below, room_left, reader_of, agrees, sorted, judged_as, closing_as}
-use Rattle.entities.specs.Stepping.{Took, Goes, Stops}
+use Rattle.entities.specs.Stepping.{Goes, Stops, took}
 use Rattle.entities.specs.declared.state.State.{State}
+use Rattle.entities.specs.declared.state.Mode.TheVariants.{Regular}
 use Rattle.entities.proofs.OpenGroups.{higher}
 use Rattle.entities.proofs.Listing.{written_none, written_more, text_none, text_more, sizes_append}
 use Rattle.reading.specs.Reading.{Read, refusal, success, before, taken, text_of, string_of, entities, read_with, reading, answered}
@@ -255,9 +257,9 @@ finished draft list₀ text₀ list text groups s at so t list' text' groups' nu
 -- nothing is read so far
 pub at_first :
     (draft list text groups : List ℕ) → length draft ≤ 16384 → length groups ≡ 64
-    → SoFar draft list text list text groups (record { mode = 0; depth = 0; entities = 0; text = 0 })
+    → SoFar draft list text list text groups (record { mode = Regular; depth = 0; entities = 0; text = 0 })
     (start draft)
-    (ahead draft list text groups (record { mode = 0; depth = 0; entities = 0; text = 0 }) (start draft))
+    (ahead draft list text groups (record { mode = Regular; depth = 0; entities = 0; text = 0 }) (start draft))
 unfolding ahead read_with room_of room_left reader_of open_groups below before sizes
 at_first draft list text groups h g =
     let some : length list / 6 - 0 ≡ length list / 6 = omega arith in
@@ -348,15 +350,15 @@ module _ (draft list text groups : List ℕ) (s : State) (at : ℕ) (f : Piece) 
     halted :
         (h : Handled) (n : ℕ) (t : State) → ahead draft list text groups s at ≡ taken f.place h next
         → agrees h (Stops n t) s list text list' text' groups' f.place
-        → Went draft list text groups s at t list' text' (refusal n f.place)
+        → Went draft list text groups s at s list' text' (refusal n f.place)
     unfolding agrees taken refusal before sizes
     halted (stops m) n t e a =
         record {
           es = [];
           list_is = a.1 ∙ sym (written_none list s.entities s.text);
           text_is = a.2 ∙ sym (text_none text s.text);
-          many = omega (arith, a.3);
-          much = omega (arith, a.4);
+          many = omega arith;
+          much = omega arith;
           comes = e ∙ ap (λ j. refusal j f.place) (sym a.0);
         }
     halted (holds _ room r) n t e a = absurd a
@@ -396,12 +398,12 @@ module _ (draft list text groups : List ℕ) (s : State) (at : ℕ) (f : Piece) 
         }
 
     pub behind_here :
-        (step : Took) → agrees comes step s list text list' text' groups' f.place → length list' ≡ length list
+        (step : Result State Refusal) → agrees comes (took s step) s list text list' text' groups' f.place → length list' ≡ length list
         → length text' ≡ length text
-        → (f.sort ≡ 3 → ⊥) → goes_round draft list text groups s at (behind_of step f.place f.after) list' text' groups'
-    unfolding goes_round behind_of refusal ahead
-    behind_here (Stops n t) a l u e = halted comes n t taken_here a
-    behind_here (Goes t) a l u e =
+        → (f.sort ≡ 3 → ⊥) → goes_round draft list text groups s at (behind_of (took s step) f.place f.after) list' text' groups'
+    unfolding goes_round behind_of refusal ahead took
+    behind_here (Err n) a l u e = halted comes (number_of n) s taken_here a
+    behind_here (Ok t) a l u e =
         let k = here some in (
           rw (ne_eqb f.sort 3 e) at (moved comes t taken_here a l u),
           ready_behind comes t a l u,
@@ -410,17 +412,17 @@ module _ (draft list text groups : List ℕ) (s : State) (at : ℕ) (f : Piece) 
         )
 
     pub ended_here :
-        (step : Took) → agrees comes step s list text list' text' groups' f.place → length list' ≡ length list
+        (step : Result State Refusal) → agrees comes (took s step) s list text list' text' groups' f.place → length list' ≡ length list
         → length text' ≡ length text
-        → f.sort ≡ 3 → goes_round draft list text groups s at (ended_of step f.place f.after) list' text' groups'
-    unfolding goes_round ended_of refusal success
-    ended_here (Stops n t) a l u e = halted comes n t taken_here a
-    ended_here (Goes t) a l u e = rw (eq-eqb f.sort 3 e) at (moved comes t taken_here a l u)
+        → f.sort ≡ 3 → goes_round draft list text groups s at (ended_of (took s step) f.place f.after) list' text' groups'
+    unfolding goes_round ended_of refusal success took
+    ended_here (Err n) a l u e = halted comes (number_of n) s taken_here a
+    ended_here (Ok t) a l u e = rw (eq-eqb f.sort 3 e) at (moved comes t taken_here a l u)
 
 -- a draft over the limit: nothing is read
 pub too_long :
     (draft list text : List ℕ) → 16384 < length draft
-    → (told 1 0 (record { mode = 0; depth = 0; entities = 0; text = 0 }) 0 ≡ (reading limits draft list text).answer)
+    → (told 1 0 (record { mode = Regular; depth = 0; entities = 0; text = 0 }) 0 ≡ (reading limits draft list text).answer)
     × (list ≡ (reading limits draft list text).list)
     × (text ≡ (reading limits draft list text).text)
 unfolding reading answered read_with refusal rows texts sizes

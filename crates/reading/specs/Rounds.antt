@@ -1,29 +1,53 @@
 -- What one round of reading does to what is held and to what is still to be read. Nothing here says more of the format than Reading does.
-use Rattle.std.specs.Prelude.{ℕ, ◌+◌, ◌<◌, ◌≡◌, List, [], eqb, ltb, length, if◌then◌else◌}
+use Rattle.std.specs.Prelude.{ℕ, ◌+◌, ◌<◌, ◌≡◌, List, [], ltb, length, if◌then◌else◌, Result, Ok, Err}
 use Rattle.chars.specs.Limits.{limits}
+use Rattle.chars.specs.Refusal.{number_of}
+use Rattle.chars.specs.declared.refusal.Refused.{Refused}
 use Rattle.chars.specs.Stream.{start, stream_at}
 use Rattle.tokens.specs.Tokens.{tokens, between}
 use Rattle.entities.specs.Entity.{Entity, sizes}
 use Rattle.entities.specs.Judging.{written, text_written}
 use Rattle.entities.specs.Stepping.{Ready, room_left, reader_of, Took, Goes, Stops}
 use Rattle.entities.specs.declared.state.State.{State}
+use Rattle.entities.specs.declared.state.Mode.TheVariants.{Regular}
 use Rattle.reading.specs.Reading.{Read, before, read_with, room_of, entities}
+use Rattle.reading.specs.declared.Answer.{Answer}
 use Rattle.reading.specs.declared.round.Round.{Round}
+use Rattle.reading.specs.declared.round.Round.TheVariants.{Next, Last}
 
--- What a round comes to, as the code has it: reading goes on at a place, or is over: 0 and the byte after `;`, or a refusal and its place.
+-- What a round comes to: reading goes on at a place, or is over: 0 and the byte after `;`, or a refusal and its place.
 pub data Turn : Type 0 where
   On : State → (at : ℕ) → Turn
   Over : (number place : ℕ) → State → (after : ℕ) → Turn
 
-unfoldable pub turn : Round → Turn
-turn r = if eqb r.over 0 then On r.state r.after else Over r.number r.place r.state r.after
+-- a round of the code in the state `s`, which stands where it is refused
+abbrev pub turn : State → Result Round Refused → Turn
+turn s (Ok (Next t after)) = On t after
+turn s (Ok (Last t after)) = Over 0 0 t after
+turn s (Err r) = Over (number_of r.refusal) r.place s 0
+
+-- nothing is held or open
+abbrev pub nothing : State
+nothing = record { mode = Regular; depth = 0; entities = 0; text = 0 }
+
+-- where the code begins
+abbrev pub opened : Result ℕ Refused → Turn
+opened (Ok at) = On nothing at
+opened (Err r) = Over (number_of r.refusal) r.place nothing 0
+
+-- the answer, in the state that reading has come to
+abbrev pub answer_of : State → Result ℕ Refused → Answer
+answer_of s (Ok consumed) =
+    record { number = 0; place = 0; entities = s.entities; text = s.text; consumed = consumed; steps = 0; cells = 0 }
+answer_of s (Err r) =
+    record { number = number_of r.refusal; place = r.place; entities = s.entities; text = s.text; consumed = 0; steps = 0; cells = 0 }
 
 -- where reading begins
 unfoldable pub opening_of : (draft : List ℕ) → Turn
 opening_of draft =
     if ltb limits.draft (length draft)
-    then Over 1 0 (record { mode = 0; depth = 0; entities = 0; text = 0 }) 0
-    else On (record { mode = 0; depth = 0; entities = 0; text = 0 }) (start draft)
+    then Over 1 0 (record { mode = Regular; depth = 0; entities = 0; text = 0 }) 0
+    else On (record { mode = Regular; depth = 0; entities = 0; text = 0 }) (start draft)
 
 -- a step behind which reading goes on
 unfoldable pub behind_of : Took → (place after : ℕ) → Turn

@@ -5,16 +5,18 @@
 ghost use Rattle.std.specs.Prelude.{◌≡◌, length};
 ghost use Rattle.chars.specs.Limits.{limits as base};
 ghost use Rattle.reading.specs.Reading.{reading as reading_of};
+ghost use Rattle.reading.specs.Rounds.{answer_of};
 
 mod round;
 
-use entities::state::State;
-use round::{go_round, opening};
+use chars::refusal::Refused;
+use entities::state::{Mode, State};
+use round::{Round, go_round, opening};
 use runs::blank::past_blanks;
 
-// The answer of read and of check. A number that an answer has no use for is 0.
+// The answer of read and of check, in numbers since C has it so (include/vogieburn.h). A number that an answer has no use for is 0.
 #[repr(C)]
-#[derive(Clone, Copy)]
+#[derive(Clone, Copy, PartialEq, Eq)]
 pub struct Answer {
     // 0 for success, or the number of refusal.
     pub number: u64,
@@ -30,24 +32,20 @@ pub struct Answer {
     pub cells: u64,
 }
 
-// An answer of read.
-fn told(number: usize, place: usize, s: State, consumed: usize) -> Answer
-    ensures { result ≡ record {
-      number = number;
-      place = place;
-      entities = s.entities;
-      text = s.text;
-      consumed = consumed;
-      steps = 0;
-      cells = 0;
-    } }
+// The answer of read in the state that reading has come to: the byte after `;`, or a refusal. No `From`, for it is made of two values.
+fn told(s: State, end: Result<usize, Refused>) -> Answer
+    ensures { result ≡ answer_of s end }
 {
+    let (number, place, consumed) = match end {
+        Ok(consumed) => (0, 0, consumed as u64),
+        Err(refused) => (refused.refusal.number(), refused.place as u64, 0),
+    };
     Answer {
-        number: number as u64,
-        place: place as u64,
+        number,
+        place,
         entities: s.entities as u64,
         text: s.text as u64,
-        consumed: consumed as u64,
+        consumed,
         steps: 0,
         cells: 0,
     }
@@ -60,14 +58,27 @@ fn walk(draft: &[u8], list: &mut [u32], text: &mut [u8], groups: &mut [u16]) -> 
     ensures list_after { list.new ≡ (reading_of base draft.now list.old text.old).list }
     ensures text_after { text.new ≡ (reading_of base draft.now list.old text.old).text }
 {
-    let mut r = opening(draft);
-    while r.over == 0 {
-        let s = r.state;
-        let place = past_blanks(draft, r.after);
-        r = go_round(draft, list, text, groups, s, place);
+    let mut s = State {
+        mode: Mode::Regular,
+        depth: 0,
+        entities: 0,
+        text: 0,
+    };
+    let mut at = match opening(draft) {
+        Ok(start) => start,
+        Err(refused) => return told(s, Err(refused)),
+    };
+    loop {
+        let place = past_blanks(draft, at);
+        match go_round(draft, list, text, groups, s, place) {
+            Ok(Round::Next { state, after }) => {
+                s = state;
+                at = after;
+            }
+            Ok(Round::Last { state, after }) => return told(state, Ok(after)),
+            Err(refused) => return told(s, Err(refused)),
+        }
     }
-    let state = r.state;
-    told(r.number, r.place, state, r.after)
 }
 
 // Reads a draft into two lent buffers: the entities' numbers into the list, their text and data into the text buffer. Past what is held
@@ -77,7 +88,5 @@ pub fn read(draft: &[u8], list: &mut [u32], text: &mut [u8]) -> Answer
     ensures list_after { list.new ≡ (reading_of base draft.now list.old text.old).list }
     ensures text_after { text.new ≡ (reading_of base draft.now list.old text.old).text }
 {
-    let mut groups = [0u16; 64];
-    let view: &mut [u16] = &mut groups;
-    walk(draft, list, text, view)
+    walk(draft, list, text, &mut [0u16; 64])
 }

@@ -1,101 +1,60 @@
 // One round of reading: what stands at a place is taken, and reading goes on behind it or is over.
 ghost use Rattle.std.specs.Prelude.{◌≡◌, ◌≤◌, ◌<◌, length, get_or};
 ghost use Rattle.runs.specs.Bytes.{begins_at};
+ghost use Rattle.runs.specs.Codes.{begins_code};
 ghost use Rattle.scan.specs.Opens.{Ended as EndedBy};
 ghost use Rattle.entities.specs.Stepping.{Ready, took};
-ghost use Rattle.reading.specs.Rounds.{goes_round, turn, opening_of, behind_of, ended_of};
+ghost use Rattle.entities.specs.declared.state.State.{State};
+ghost use Rattle.entities.specs.declared.state.Mode.TheVariants.{Metacommand};
+ghost use Rattle.reading.specs.Rounds.{goes_round, turn, opened, opening_of, behind_of, ended_of};
 
 use chars::limits;
+use chars::refusal::{Refusal, Refused};
 use entities::metacommands::metacommand_ends;
-use entities::state::{State, Step};
-use scan::Ended;
+use entities::state::{Mode, State};
+use runs::sorts::Begins;
+use scan::{Ended, How, Piece};
 use structure::last::last;
 use structure::structure;
 use texts::{take, take_word};
+use tokens::Token;
 
-// What a round comes to. All are numbers of one width, as in state.rt.
+// What a round comes to: the state behind what was taken, and the place there.
 #[derive(Clone, Copy)]
-pub struct Round {
-    // 0 where reading goes on, 1 where it is over.
-    pub over: usize,
-    // Where it is over: 0, or a refusal and its place.
-    pub number: usize,
-    pub place: usize,
-    // Where reading goes on, or the byte after `;`.
-    pub after: usize,
-    pub state: State,
-}
-
-// Reading goes on at a place.
-fn on(s: State, after: usize) -> Round
-    ensures { result ≡ record { over = 0; number = 0; place = 0; after = after; state = s } }
-{
-    Round {
-        over: 0,
-        number: 0,
-        place: 0,
-        after,
-        state: s,
-    }
+pub enum Round {
+    // Reading goes on.
+    Next { state: State, after: usize },
+    // The last token was taken.
+    Last { state: State, after: usize },
 }
 
 // Where reading begins: behind a byte order mark, if there is one. A draft over the limit is refused.
-pub fn opening(draft: &[u8]) -> Round
-    ensures { turn result ≡ opening_of draft.now }
+#[tactic(auto, unfolding(crate::specs::Rounds::opening_of))]
+pub fn opening(draft: &[u8]) -> Result<usize, Refused>
+    ensures { opened result ≡ opening_of draft.now }
 {
-    let none = State {
-        mode: 0,
-        depth: 0,
-        entities: 0,
-        text: 0,
-    };
     if limits::DRAFT < draft.len() {
-        return over(1, 0, none);
+        return Err(Refusal::DraftTooLong.at(0));
     }
-    on(none, chars::start(draft))
+    Ok(chars::start(draft))
 }
 
-// A refusal.
-fn over(number: usize, place: usize, s: State) -> Round
-    ensures { result ≡ record { over = 1; number = number; place = place; after = 0; state = s } }
+// A round whose token is not the last: behind it, or its refusal at its place.
+#[tactic(auto, unfolding(crate::specs::Rounds::behind_of, entities::specs::Stepping::took))]
+fn behind(step: Result<State, Refusal>, place: usize, after: usize) -> Result<Round, Refused>
+    ensures { (s : State) → turn s result ≡ behind_of (took s step) place after }
 {
-    Round {
-        over: 1,
-        number,
-        place,
-        after: 0,
-        state: s,
-    }
+    let state = step.map_err(|refusal| refusal.at(place))?;
+    Ok(Round::Next { state, after })
 }
 
-// A round whose token is not the last: behind it, or over at its place.
-fn behind(step: Step, place: usize, after: usize) -> Round
-    ensures { turn result ≡ behind_of (took step) place after }
+// A round whose token is the last. With the variant handed in, one function for both would be no plainer.
+#[tactic(auto, unfolding(crate::specs::Rounds::ended_of, entities::specs::Stepping::took))]
+fn ended(step: Result<State, Refusal>, place: usize, after: usize) -> Result<Round, Refused>
+    ensures { (s : State) → turn s result ≡ ended_of (took s step) place after }
 {
-    let number = step.number;
-    let state = step.state;
-    if number != 0 {
-        return over(number, place, state);
-    }
-    on(state, after)
-}
-
-// A round whose token is the last.
-fn ended(step: Step, place: usize, after: usize) -> Round
-    ensures { turn result ≡ ended_of (took step) place after }
-{
-    let number = step.number;
-    let state = step.state;
-    if number != 0 {
-        return over(number, place, state);
-    }
-    Round {
-        over: 1,
-        number: 0,
-        place: 0,
-        after,
-        state,
-    }
+    let state = step.map_err(|refusal| refusal.at(place))?;
+    Ok(Round::Last { state, after })
 }
 
 // A comment, a string, `|;`, or what no straight way knows.
@@ -106,30 +65,26 @@ fn piece(
     groups: &mut [u16],
     s: State,
     at: usize,
-    begins: u32,
-    e: Ended,
-) -> Round
+    begins: Begins,
+    e: Option<Ended>,
+) -> Result<Round, Refused>
     requires { (length draft.now ≤ 16384) × Ready s list.old text.old groups.old at × (at < length draft.now)
-        × (begins ≡ begins_at draft.now at)
-        × (begins ≡ 3 → (s.mode ≡ 2) × (get_or draft.now at 0 ≡ 0x25 → ⊥) × (get_or draft.now at 0 ≡ 0x3B → ⊥))
-        × EndedBy draft.now at e.at e.how }
-    ensures { goes_round draft.now list.old text.old groups.old s at (turn result)
+        × (begins_code begins ≡ begins_at draft.now at)
+        × (begins_code begins ≡ 3 → (s.mode ≡ Metacommand) × (get_or draft.now at 0 ≡ 0x25 → ⊥) × (get_or draft.now at 0 ≡ 0x3B → ⊥))
+        × EndedBy draft.now at e }
+    ensures { goes_round draft.now list.old text.old groups.old s at (turn s result)
         list.new text.new groups.new }
 {
-    let p = scan::found(draft, at, begins, e);
-    let sort = p.sort;
-    let place = p.place;
-    let after = p.after;
-    if sort == 5 {
-        return on(s, after);
+    let p = scan::found(draft, at, begins, e)?;
+    match p {
+        Piece::Blank { after } => Ok(Round::Next { state: s, after }),
+        Piece::Token(Token::Last { place, after }) => {
+            ended(last(list, groups, s, place), place, after)
+        }
+        Piece::Token(Token::Whole(w)) => {
+            behind(take(draft, list, text, groups, s, w), w.place, w.after)
+        }
     }
-    if sort == 4 {
-        return over(p.number as usize, place, s);
-    }
-    if sort == 3 {
-        return ended(last(list, groups, s, place), place, after);
-    }
-    behind(take(draft, list, text, groups, s, p), place, after)
 }
 
 // The next round, told by the byte that stands there.
@@ -140,34 +95,34 @@ pub fn go_round(
     groups: &mut [u16],
     s: State,
     at: usize,
-) -> Round
+) -> Result<Round, Refused>
     requires { (length draft.now ≤ 16384) × Ready s list.old text.old groups.old at }
-    ensures { goes_round draft.now list.old text.old groups.old s at (turn result)
+    ensures { goes_round draft.now list.old text.old groups.old s at (turn s result)
         list.new text.new groups.new }
 {
     if draft.len() <= at {
-        return over(7, draft.len(), s);
+        return Err(Refusal::DraftEnds.at(draft.len()));
     }
     let b = draft[at];
     let begins = scan::begins_at(draft, at);
-    let mode = s.mode;
-    if begins == 3 {
-        if mode != 2 {
+    if begins == Begins::Atomic {
+        if s.mode == Mode::Metacommand {
+            if b == b'%' {
+                return Err(Refusal::PercentInside.at(at));
+            }
+            if b == b';' {
+                return behind(metacommand_ends(list, groups, s, at), at, at + 1);
+            }
+        } else {
             return behind(structure(list, groups, s, b, at), at, at + 1);
-        }
-        if b == b'%' {
-            return over(10, at, s);
-        }
-        if b == b';' {
-            return behind(metacommand_ends(list, groups, s, at), at, at + 1);
         }
     }
     let e = scan::worded(draft, at, begins);
-    let how = e.how;
-    let i = e.at;
-    if how == 1 {
-        let step = take_word(draft, list, text, groups, s, b, at, i - at);
-        return behind(step, at, i);
+    match e {
+        Some(word) if word.how == How::Simple => {
+            let step = take_word(draft, list, text, groups, s, b, at, word.at - at);
+            behind(step, at, word.at)
+        }
+        _ => piece(draft, list, text, groups, s, at, begins, e),
     }
-    piece(draft, list, text, groups, s, at, begins, e)
 }

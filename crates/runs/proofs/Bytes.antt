@@ -16,7 +16,7 @@ use borrow.Author.Tests.{not-true, ne_eqb, le-leb}
 use Rattle.std.specs.Prelude.{if◌then◌else◌}
 use Rattle.chars.specs.Choice.{within, among}
 use Rattle.chars.specs.Character.{character, character_at, carriage}
-use Rattle.chars.specs.declared.Character.TheVariants.{Clean}
+use Rattle.chars.specs.Character.{Clean}
 use Rattle.chars.proofs.Characters.{refused}
 use Rattle.chars.proofs.Cases.{either}
 use Rattle.runs.specs.Bytes.{begins_of}

@@ -78,3 +78,11 @@ pub record Passed (test : ℕ → Bool) (draft : List ℕ) (at r : ℕ) : Type 0
   pub on : at ≤ r
   pub there : r ≤ length draft
   pub each : (i : ℕ) → at ≤ i → i < r → test (get_or draft i 0) ≡ true
+
+-- What a function answers of a byte is what a test says of it.
+abbrev pub Tests : (test : ℕ → Bool) → (answers : ℕ → Bool → Type 0) → Type 0
+Tests test answers = (b : ℕ) (r : Bool) → b < 256 → answers b r → r ≡ test b
+
+-- What a function answers of eight bytes as one number are flags for a test.
+abbrev pub FlagsOf : (test : ℕ → Bool) → (answers : ℕ → ℕ → Type 0) → Type 0
+FlagsOf test answers = (w r : ℕ) → w < 2 ^ 64 → answers w r → Flags test w r

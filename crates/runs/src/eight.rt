@@ -4,7 +4,7 @@ ghost use Rattle.std.specs.Prelude.{◌≡◌, true, false, ℕ, ◌<◌, ◌≤
 ghost use Rattle.tokens.specs.Runs.{bytes_of};
 ghost use Rattle.runs.specs.Bytes.{goes_on, remark, plain, Flags, Passed};
 
-use tokens::number::eight;
+use crate::past::past_eights;
 
 // A flag for each byte that ends a word or is none of a draft's, and for `!`, `$`, `=` and `~`, which go on with a word: to tell these apart
 // too would take more operations for every word. `low` tells those up to SP, `$`, `(` and `,`, `next` those up to `%`, `(` and `)`, and
@@ -39,7 +39,8 @@ fn quoted_flags(w: u64) -> u64
     (w | ((low & escape) ^ 0x8080808080808080)) & 0x8080808080808080
 }
 
-// The same of curly string data: control characters, backslash, from `{` on, and what is not US-ASCII.
+// The same of curly string data: control characters, backslash, from `{` on, and what is not US-ASCII. The two differ in which sums there
+// are and in no number, so that one function for both would be no shorter.
 fn curly_flags(w: u64) -> u64
     ensures { Flags (plain true) w result }
 {
@@ -50,7 +51,8 @@ fn curly_flags(w: u64) -> u64
     (w | high | ((low & escape) ^ 0x8080808080808080)) & 0x8080808080808080
 }
 
-// The same of either.
+// The same of either. `curly` is the definition's own parameter (specs/Bytes.antt, `plain`): `Sort` of `tokens` has a third case, which no
+// string data is of.
 fn plain_flags(w: u64, curly: bool) -> u64
     ensures { Flags (plain curly) w result }
 {
@@ -84,16 +86,7 @@ pub fn past_remark(draft: &[u8], at: usize) -> usize
     requires { at ≤ length draft.now }
     ensures { Passed remark draft.now at result }
 {
-    let end = draft.len();
-    let mut i = at;
-    while 8 <= end - i {
-        let flags = remark_flags(eight(draft, i));
-        if flags != 0 {
-            return i + before_flag(flags);
-        }
-        i += 8;
-    }
-    i
+    past_eights(draft, at, draft.len(), remark_flags)
 }
 
 // From `at` on, behind bytes that string data is mostly made of.
@@ -101,14 +94,5 @@ pub fn past_plain(draft: &[u8], at: usize, curly: bool) -> usize
     requires { at ≤ length draft.now }
     ensures { Passed (plain curly) draft.now at result }
 {
-    let end = draft.len();
-    let mut i = at;
-    while 8 <= end - i {
-        let flags = plain_flags(eight(draft, i), curly);
-        if flags != 0 {
-            return i + before_flag(flags);
-        }
-        i += 8;
-    }
-    i
+    past_eights(draft, at, draft.len(), |w| plain_flags(w, curly))
 }

@@ -6,4 +6,6 @@
 pub mod blank;
 pub mod byte;
 pub mod eight;
+pub mod past;
 pub mod settled;
+pub mod sorts;

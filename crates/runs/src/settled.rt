@@ -2,16 +2,12 @@
 ghost use Rattle.std.specs.Prelude.{◌≡◌, false, ◌<◌, ◌≤◌, length, get_or};
 ghost use Rattle.runs.specs.Bytes.{settled as settled_by, Flags, Passed};
 
-use crate::eight::before_flag;
-use tokens::number::eight;
+use crate::past::{past_bytes, past_eights};
 
 fn settled(b: u8) -> bool
     ensures { result ≡ settled_by b }
 {
-    if b == 0x0D {
-        return false;
-    }
-    b != 0xED
+    b != 0x0D && b != 0xED
 }
 
 // A flag for each CR and each ED of eight bytes.
@@ -24,35 +20,16 @@ fn change_flags(w: u64) -> u64
     (((line | w) & (pair | (w ^ 0x8080808080808080))) ^ 0x8080808080808080) & 0x8080808080808080
 }
 
-// From `at` on, behind such bytes, up to `end`, one by one.
-fn past_few(draft: &[u8], at: usize, end: usize) -> usize
-    requires { (at ≤ end) × (end ≤ length draft.now) }
-    ensures { Passed settled_by draft.now at result × (result ≤ end)
-        × (result < end → settled_by (get_or draft.now result 0) ≡ false) }
-{
-    let mut i = at;
-    while i < end {
-        if !settled(draft[i]) {
-            return i;
-        }
-        i += 1;
-    }
-    i
-}
-
-// The same, eight at once where there are as many.
+// From `at` on, behind such bytes, up to `end`: eight at once where there are as many, and then one by one.
 pub fn past_settled(draft: &[u8], at: usize, end: usize) -> usize
     requires { (at ≤ end) × (end ≤ length draft.now) }
     ensures { Passed settled_by draft.now at result × (result ≤ end)
         × (result < end → settled_by (get_or draft.now result 0) ≡ false) }
 {
-    let mut i = at;
-    while 8 <= end - i {
-        let flags = change_flags(eight(draft, i));
-        if flags != 0 {
-            return past_few(draft, i + before_flag(flags), end);
-        }
-        i += 8;
-    }
-    past_few(draft, i, end)
+    past_bytes(
+        draft,
+        past_eights(draft, at, end, change_flags),
+        end,
+        settled,
+    )
 }

@@ -6,7 +6,7 @@ use native.Mathlib.Omega.{arith}
 use lib.ListN.{length, get_or}
 use Rattle.chars.specs.Character.{character_at}
 use Rattle.chars.specs.Stream.{stream_at}
-use Rattle.chars.specs.declared.Character.TheVariants.{Clean}
+use Rattle.chars.specs.Character.{Clean}
 use Rattle.chars.proofs.Extent.{within_true}
 use Rattle.chars.proofs.Streams.{plain}
 use Rattle.tokens.specs.Runs.{past_comment}

@@ -15,7 +15,7 @@ use Rattle.chars.specs.Choice.{within}
 use Rattle.chars.specs.Limits.{limits}
 use Rattle.chars.specs.Character.{character_at, encoded}
 use Rattle.chars.specs.Stream.{stream_at}
-use Rattle.chars.specs.declared.Character.TheVariants.{Clean}
+use Rattle.chars.specs.Character.{Clean}
 use Rattle.chars.proofs.Cases.{both}
 use Rattle.chars.proofs.Extent.{encoded_one, within_true}
 use Rattle.chars.proofs.Streams.{at_end, plain as plain_at}

@@ -7,3 +7,4 @@ pub mod Blanks
 pub mod Places
 pub mod Finding
 pub mod Unique
+pub mod Begun

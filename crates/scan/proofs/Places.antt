@@ -12,7 +12,7 @@ use Rattle.std.specs.Prelude.{if◌then◌else◌}
 use Rattle.chars.specs.Limits.{Limits, limits}
 use Rattle.chars.specs.Character.{character_at, encoded}
 use Rattle.chars.specs.Stream.{Stream, next, stop, stream_at}
-use Rattle.chars.specs.declared.Character.TheVariants.{Clean}
+use Rattle.chars.specs.Character.{Clean}
 use Rattle.chars.proofs.Cases.{either}
 use Rattle.tokens.specs.Sorts.{visible, white, atomic, exclusive, inclusive, legal}
 use Rattle.tokens.specs.Tokens.{Sort, simple, quoted, curly, Whole, simply, Tokens, token, last, refused, Opened, closed, State, between}

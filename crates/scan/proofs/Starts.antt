@@ -12,14 +12,14 @@ use Rattle.std.specs.Prelude.{if◌then◌else◌}
 use Rattle.chars.specs.Limits.{limits}
 use Rattle.chars.specs.Character.{character_at}
 use Rattle.chars.specs.Stream.{stream_at}
-use Rattle.chars.specs.declared.Character.TheVariants.{Clean}
+use Rattle.chars.specs.Character.{Clean}
 use Rattle.chars.proofs.Cases.{either, by_bound}
 use Rattle.chars.proofs.Streams.{at_character}
 use Rattle.tokens.specs.Sorts.{visible, white, atomic, exclusive, inclusive, legal}
 use Rattle.tokens.specs.Tokens.{State, quoted, curly, Tokens, between, bar, word, string, tokens, step, begins, follows, opens}
 use Rattle.tokens.specs.Tokens.{first, token_at}
 use Rattle.tokens.specs.Runs.{class_of, sort_of, opened_as, past_all, past_comment}
-use Rattle.tokens.specs.declared.Token.TheVariants.{Simple, Last}
+use Rattle.tokens.specs.Tokens.{Simple, Last}
 use Rattle.tokens.proofs.Classes.{plain, opening, is_white, atomic_curly, atomic_other, Atomic}
 use Rattle.tokens.proofs.Skipping.{alone_at, all_remark, no_mark}
 use Rattle.tokens.proofs.Starts as starts

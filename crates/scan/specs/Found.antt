@@ -4,10 +4,9 @@ use Rattle.chars.specs.Limits.{limits}
 use Rattle.chars.specs.Stream.{stream_at}
 use Rattle.tokens.specs.Tokens.{tokens, between, word, string, closed, first, shown, token_at}
 use Rattle.tokens.specs.Runs.{opened_as}
-use Rattle.tokens.specs.declared.Token.{Token}
-use Rattle.tokens.specs.declared.Token.TheVariants.{Simple, Quoted, Curly, Last, Refused}
+use Rattle.tokens.specs.Tokens.{Token}
+use Rattle.tokens.specs.Tokens.{Simple, Quoted, Curly, Last, Refused}
 use Rattle.runs.specs.Bytes.{ends_of, goes_on, Passed}
-use Rattle.scan.specs.declared.Piece.{Piece}
 
 -- a string whose data begins at `from` is closed by the byte before `after`, behind `n` clean bytes, whatever its prefix
 pub record Closed (draft : List ℕ) (curly : Bool) (from after n : ℕ) : Type 0 where
@@ -33,7 +32,18 @@ pub record Worded (draft : List ℕ) (begun i how : ℕ) : Type 0 where
       tokens limits (word begun 1) (stream_at draft (begun + 1)) ≡ tokens limits (word begun (i - begun)) (stream_at draft i)
   pub ends : ends_of (get_or draft i 0) ≡ how
 
--- a token as the code takes it apart: 4 stands for a refusal, and a part that it has not is 0
+-- What stands at a place, taken apart: of sort 0 a simple token, 1 a quoted one, 2 a curly one, 3 the last, 4 a refusal, and 5 whitespace or
+-- a comment.
+pub record Piece : Type 0 where
+  pub sort : ℕ
+  pub place : ℕ
+  pub after : ℕ
+  pub prefix : ℕ
+  pub from : ℕ
+  pub bytes : ℕ
+  pub number : ℕ
+
+-- a token taken apart: 4 stands for a refusal, and a part that it has not is 0
 unfoldable pub piece_of : Token → Piece
 piece_of (Simple place after length) =
     record { sort = 0; place = place; after = after; prefix = length; from = 0; bytes = 0; number = 0 }

@@ -1,3 +1,4 @@
 pub mod Data
 pub mod Found
 pub mod Opens
+pub mod Told

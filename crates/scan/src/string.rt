@@ -1,5 +1,5 @@
 // String data (Shastina Specification, section 3.3), in one loop: where it is closed, and how many of its bytes cleaning takes away.
-ghost use Rattle.std.specs.Prelude.{◌≡◌, Bool, ℕ, ◌+◌, ◌-◌, ◌<◌, ◌≤◌, length, get_or, if◌then◌else◌};
+ghost use Rattle.std.specs.Prelude.{◌≡◌, Bool, ℕ, ◌+◌, ◌-◌, ◌<◌, ◌≤◌, IfSome, length, get_or, if◌then◌else◌};
 ghost use Rattle.scan.specs.Data.{Even, Goes};
 ghost use Rattle.scan.specs.Found.{Closed};
 
@@ -8,30 +8,18 @@ use runs::byte::is_line;
 use runs::eight::past_plain;
 use wide::{Reach, past_narrow, past_pairs, past_wide};
 
-// The byte after the one that closes a string, and how many clean bytes its data has. 0 for the byte says nothing.
-#[derive(Clone, Copy)]
+// The byte after the one that closes a string, and how many clean bytes its data has.
+#[derive(Clone, Copy, Debug, PartialEq, Eq)]
 pub struct Data {
     pub after: usize,
     pub length: usize,
 }
 
-// What takes the level up, in a quoted string nothing but what takes it down.
-fn opening(curly: bool) -> u8
-    ensures { result ≡ (if curly then 0x7B else 0x22) }
+// What takes the level up or down: a mark in a curly string, and `"` in a quoted one, where nothing takes it up but what takes it down.
+fn mark(curly: bool, in_curly: u8) -> u8
+    ensures { result ≡ (if curly then in_curly else 0x22) }
 {
-    if curly {
-        return b'{';
-    }
-    b'"'
-}
-
-fn closing(curly: bool) -> u8
-    ensures { result ≡ (if curly then 0x7D else 0x22) }
-{
-    if curly {
-        return b'}';
-    }
-    b'"'
+    if curly { in_curly } else { b'"' }
 }
 
 // Behind a backslash at `i`: one of three bytes there is data, whatever it would be elsewhere.
@@ -60,105 +48,91 @@ fn escaped(draft: &[u8], i: usize, up: u8, down: u8) -> usize
     next
 }
 
-// Behind characters above US-ASCII; `i` itself says nothing.
-fn above(draft: &[u8], i: usize) -> Reach
+// Behind characters above US-ASCII, if any are known.
+fn above(draft: &[u8], i: usize) -> Option<Reach>
     requires { i < length draft.now }
-    ensures { (curly : Bool) (level : ℕ) → Goes draft.now curly i level result.after level result.less }
+    ensures { IfSome result (λ r. (i < r.after) × ((curly : Bool) (level : ℕ) → Goes draft.now curly i level r.after level r.less)) }
 {
     let narrow = past_narrow(draft, i);
     if narrow != i {
-        return Reach {
+        return Some(Reach {
             after: narrow,
             less: 0,
-        };
+        });
     }
     let pairs = past_pairs(draft, i);
     if pairs.after != i {
-        return pairs;
+        return Some(pairs);
     }
-    past_wide(&draft[..], i)
+    let reach = past_wide(&draft[..], i);
+    if reach.after == i {
+        return None;
+    }
+    Some(reach)
 }
 
-// Behind any other character that is no mark, of which CR LF is one; `i` itself says nothing.
-fn other(draft: &[u8], i: usize) -> Reach
+// Behind any other character of US-ASCII that is no mark, of which CR LF is one. What stands above US-ASCII has a way of its own, which has
+// one caller, so that it is no call.
+fn other(draft: &[u8], i: usize) -> Option<Reach>
     requires { i < length draft.now }
-    ensures { (curly : Bool) (level : ℕ)
+    ensures { IfSome result (λ r. (i < r.after) × ((curly : Bool) (level : ℕ)
         → Even curly (get_or draft.now i 0)
-        → Goes draft.now curly i level result.after level result.less }
+        → Goes draft.now curly i level r.after level r.less)) }
 {
     let b = draft[i];
-    if 0x7F < b {
-        return above(&draft[..], i);
-    }
-    if b == 0 {
-        return Reach { after: i, less: 0 };
+    if 0x7F < b || b == 0 {
+        return None;
     }
     if b == b'\r' {
         if is_line(draft, i) {
-            return Reach {
+            return Some(Reach {
                 after: i + 2,
                 less: 1,
-            };
+            });
         }
-        return Reach { after: i, less: 0 };
+        return None;
     }
-    Reach {
+    Some(Reach {
         after: i + 1,
         less: 0,
-    }
-}
-
-// Nothing is known of a string's end.
-fn unclosed() -> Data
-    ensures { result ≡ record { after = 0; length = 0 } }
-{
-    Data {
-        after: 0,
-        length: 0,
-    }
+    })
 }
 
 // A string that the byte at `i` closes, whose data has lost `less` bytes to cleaning; nothing where it is longer than the limit.
-fn closed(from: usize, i: usize, less: usize) -> Data
+fn closed(from: usize, i: usize, less: usize) -> Option<Data>
     requires { (from + less ≤ i) × (i < 0xFFFFFFFFFFFFFFFF) }
-    ensures { 0 < result.after → (result.after ≡ i + 1) × (result.length ≡ i - from - less) × (result.length ≤ 4096) }
+    ensures { IfSome result (λ d. (d.after ≡ i + 1) × (d.length ≡ i - from - less) × (d.length ≤ 4096)) }
 {
     let length = i - from - less;
     if limits::STRING < length {
-        return Data {
-            after: 0,
-            length: 0,
-        };
+        return None;
     }
-    Data {
+    Some(Data {
         after: i + 1,
         length,
-    }
+    })
 }
 
-// Where a string whose data begins at `from` is closed.
-pub fn string_end(draft: &[u8], from: usize, curly: bool) -> Data
+// Where a string whose data begins at `from` is closed, if that is known. `curly` is a `bool` as in `past_plain`.
+pub fn string_end(draft: &[u8], from: usize, curly: bool) -> Option<Data>
     requires { (0 < from) × (from ≤ length draft.now) }
-    ensures { 0 < result.after → Closed draft.now curly from result.after result.length }
+    ensures { IfSome result (λ d. Closed draft.now curly from d.after d.length) }
 {
-    let up = opening(curly);
-    let down = closing(curly);
+    let up = mark(curly, b'{');
+    let down = mark(curly, b'}');
     let mut at = from;
     let mut less: usize = 0;
     let mut level: usize = 1;
     loop {
         let i = past_plain(&draft[..], at, curly);
         if draft.len() <= i {
-            return unclosed();
+            return None;
         }
         let b = draft[i];
         if 0x7F < b {
-            let reach = above(&draft[..], i);
+            let reach = above(&draft[..], i)?;
             at = reach.after;
             less += reach.less;
-            if at == i {
-                return unclosed();
-            }
         } else if b == down {
             if level == 1 {
                 return closed(from, i, less);
@@ -171,12 +145,9 @@ pub fn string_end(draft: &[u8], from: usize, curly: bool) -> Data
         } else if b == b'\\' {
             at = escaped(&draft[..], i, up, down);
         } else {
-            let reach = other(&draft[..], i);
+            let reach = other(&draft[..], i)?;
             at = reach.after;
             less += reach.less;
-            if at == i {
-                return unclosed();
-            }
         }
     }
 }

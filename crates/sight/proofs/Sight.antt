@@ -5,17 +5,25 @@ use mathlib.Core.List.{List, ◌∷◌}
 use Prim.Native.Nat.{ℕ, zero, suc, ◌+◌, ◌-◌, ◌<◌, ◌≤◌}
 use native.Mathlib.Omega.{arith}
 use native.Mathlib.Numerals.{add-one}
+use Rattle.std.proofs.Common.{Ok, Err}
 use lib.Dec.{ltb}
 use lib.ListN.{length, get_or, set}
 use lib.Seq.{get_or-set_same, get_or-set_other}
 use borrow.Author.Tests.{lt-ltb, le-ltb}
 use Rattle.chars.specs.Limits.{limits}
+use Rattle.chars.specs.declared.refusal.Refusal.TheVariants.{TooManyCells}
 use Rattle.chars.proofs.Cases.{either}
 use Rattle.rules.specs.Cells.{State, goes, stops, total, cells_of, not_too_many, in_sight, innermost, outer, show}
 use Rattle.rules.specs.Kinds.{Checked, of, count, kind_of, kinds}
-use Rattle.sight.specs.Arrays.{cell_of, plain_of, sight_of, hidden_of, state_of, stacked, Standing, Hiding, meant, ready, Agrees}
+use Rattle.sight.specs.Arrays.{cell_of, plain_of, sight_of, hidden_of, state_of, stacked, Standing, Hiding}
+use Rattle.sight.specs.Stacks.{meant, ready, Agrees}
 use Rattle.sight.specs.declared.Counts.{Counts}
-use Rattle.sight.specs.declared.Move.TheVariants.{Goes, Stops}
+use Rattle.sight.specs.declared.Stack.{Stack}
+
+-- arrays and counts in one value
+abbrev pub stack : (cells bases index whats : List ℕ) → Counts → Stack
+stack cells bases index whats s =
+    record { cells = cells; bases = bases; index = index; whats = whats; counts = s }
 
 -- a number as a cell
 pub small_cell : (c : ℕ) → c < 16 → cell_of c ≡ of c
@@ -182,19 +190,19 @@ module _ (text cells bases index whats : List ℕ) (s : Counts) (g : Hiding base
       rw (so_many_hidden cells bases s.base s.depth g.hidden, sum)
 
   pub too_many :
-      (cells' : List ℕ) (sight : List Checked) → 1024 < s.base + length sight
-      → Agrees (not_too_many limits kinds (in_sight limits kinds (state_of text cells bases index whats s) sight)) text cells' bases index
-      whats (Stops 29)
+      (k : Stack) (sight : List Checked) → 1024 < s.base + length sight
+      → Agrees (not_too_many limits kinds (in_sight limits kinds (state_of text cells bases index whats s) sight)) text k
+      (Err TooManyCells)
   unfolding not_too_many kinds meant ready
-  too_many cells' sight h =
+  too_many k sight h =
       record { same = rw (too_many_now sight, lt-ltb 1024 (s.base + length sight) h); on = tt }
 
   module _
       (st : Standing text cells index whats s) (cells' : List ℕ) (n : ℕ) (few : s.base + n ≤ 1024) (room : length cells' ≡ length cells)
       (below : hidden_of cells' bases s.base s.depth ≡ hidden_of cells bases s.base s.depth) where
     pub in_sight_now :
-        Agrees (goes (in_sight limits kinds (state_of text cells bases index whats s) (sight_of cells' s.base n))) text cells' bases
-        index whats (Goes (record { base = s.base; seen = n; depth = s.depth; names = s.names }))
+        Agrees (goes (in_sight limits kinds (state_of text cells bases index whats s) (sight_of cells' s.base n))) text
+        (stack cells' bases index whats (record { base = s.base; seen = n; depth = s.depth; names = s.names })) (Ok tt)
     unfolding state_of in_sight meant ready
     in_sight_now =
         record {
@@ -207,7 +215,7 @@ module _ (text cells bases index whats : List ℕ) (s : Counts) (g : Hiding base
 
     pub not_many :
         Agrees (not_too_many limits kinds (in_sight limits kinds (state_of text cells bases index whats s) (sight_of cells' s.base n)))
-        text cells' bases index whats (Goes (record { base = s.base; seen = n; depth = s.depth; names = s.names }))
+        text (stack cells' bases index whats (record { base = s.base; seen = n; depth = s.depth; names = s.names })) (Ok tt)
     unfolding not_too_many kinds
     not_many =
         let sight = sight_of cells' s.base n in
@@ -216,14 +224,14 @@ module _ (text cells bases index whats : List ℕ) (s : Counts) (g : Hiding base
 -- a group that ends with one cell in sight
 pub one_shown :
     (text cells bases index whats : List ℕ) (s : Counts) → Standing text cells index whats s → Hiding bases s → 0 < s.depth → s.seen ≡ 1
-    → Agrees (show limits kinds (state_of text cells bases index whats s) (sight_of cells s.base s.seen)) text cells bases index whats
-    (Goes
+    → Agrees (show limits kinds (state_of text cells bases index whats s) (sight_of cells s.base s.seen)) text
+    (stack cells bases index whats
     (record {
       base = get_or bases (s.depth - 1) 0;
       seen = s.base + 1 - get_or bases (s.depth - 1) 0;
       depth = s.depth - 1;
       names = s.names;
-    }))
+    })) (Ok tt)
 unfolding show state_of sight_of innermost outer meant ready
 one_shown text cells bases index whats s st g deep one =
     let around = get_or bases (s.depth - 1) 0 in

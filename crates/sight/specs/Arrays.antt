@@ -3,11 +3,9 @@
 -- Names stand in an index (names/Index) over the text buffer, and `whats` has the kind of each, with 16 more for a constant.
 use Rattle.std.specs.Prelude.{ℕ, zero, suc, ◌+◌, ◌-◌, ◌%◌, ◌≤◌, ◌≡◌, List, [], ◌∷◌, leb, ltb, length, get_or, if◌then◌else◌}
 use Rattle.names.specs.Index.{Indexed, key_of, position}
-use Rattle.rules.specs.Cells.{Name, State, Did, goes, stops}
+use Rattle.rules.specs.Cells.{Name, State}
 use Rattle.rules.specs.Kinds.{Checked, of, count}
 use Rattle.sight.specs.declared.Counts.{Counts}
-use Rattle.sight.specs.declared.Move.{Move}
-use Rattle.sight.specs.declared.Move.TheVariants.{Goes, Stops}
 
 unfoldable pub cell_of : ℕ → Checked
 cell_of c = if ltb c 16 then of c else count (c - 16)
@@ -71,18 +69,3 @@ pub record Hiding (bases : List ℕ) (s : Counts) : Type 0 where
   pub shallow : s.depth ≤ 64
   pub hidden : stacked bases s.base s.depth
   pub bases_room : length bases ≡ 64
-
--- what the code's answer for an entity means
-unfoldable pub meant : (text cells bases index whats : List ℕ) → Move → Did Checked
-meant text cells bases index whats (Goes s) = goes (state_of text cells bases index whats s)
-meant text cells bases index whats (Stops rule) = stops rule
-
--- where it goes on, all is as it should be again
-unfoldable pub ready : (text cells bases index whats : List ℕ) → Move → Type 0
-ready text cells bases index whats (Goes s) = Standing text cells index whats s × Hiding bases s
-ready text cells bases index whats (Stops rule) = Unit
-
--- the answer and the arrays then are what the definition says
-pub record Agrees (d : Did Checked) (text cells bases index whats : List ℕ) (r : Move) : Type 0 where
-  pub same : meant text cells bases index whats r ≡ d
-  pub on : ready text cells bases index whats r

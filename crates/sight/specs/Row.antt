@@ -1,5 +1,6 @@
 -- The row of an entity in a list's numbers, and its text in a text buffer's bytes (docs/LAYOUT.md).
 use Rattle.std.specs.Prelude.{ℕ, ◌+◌, ◌*◌, List, get_or, take, drop}
+use Rattle.holding.specs.declared.rows.Row.{Row}
 
 -- a number of an entity's row
 abbrev number_in : (list : List ℕ) → (entity which : ℕ) → ℕ
@@ -27,3 +28,7 @@ count_in list i = number_in list i 5
 -- an entity's text
 unfoldable pub text_in : (list text : List ℕ) → (entity : ℕ) → List ℕ
 text_in list text i = take (text_len_in list i) (drop (text_at_in list i) text)
+
+-- the text that a row tells of
+abbrev pub text_by : Row → (text : List ℕ) → List ℕ
+text_by row text = take row.text_len (drop row.text_at text)

@@ -2,18 +2,28 @@
 
 #![tactic(auto)]
 
-ghost use Rattle.std.specs.Prelude.{◌≡◌, List, ℕ, ◌+◌, ◌-◌, ◌<◌, ◌≤◌, get_or};
+ghost use Rattle.std.specs.Prelude.{◌≡◌, List, ℕ, ◌+◌, ◌<◌, ◌≤◌, Ok, OnErr};
 ghost use Rattle.chars.specs.Limits.{limits};
 ghost use Rattle.rules.specs.Cells.{push as push_of, hide as hide_of, show as show_of};
 ghost use Rattle.rules.specs.Kinds.{kinds};
-ghost use Rattle.sight.specs.Arrays.{cell_of, plain_of, sight_of, state_of, Standing, Hiding, Agrees};
+ghost use Rattle.sight.specs.Arrays.{cell_of, plain_of};
+ghost use Rattle.sight.specs.Stacks.{cells_in, state_in, sight_in, Hidden, Stands, Agrees};
+ghost use Rattle.sight.specs.Stacks.{SameCells, SameGroups, SameNames};
 
-use names::wide;
+use chars::refusal::Refusal;
+use names::Index;
 
 pub mod row;
 
+// Cells on the stack, hidden ones counted.
+pub const CELLS: usize = 1024;
+
+// Kinds of cells are below it, and a cell of a count is so much more than the count. A cell stays a number, since a house has kinds of its
+// own, and `plain` and `push` promise what they do of every number.
+pub const KINDS: u64 = 16;
+
 // How many cells are hidden, how many in sight, how many groups are open, and how many names defined.
-#[derive(Clone, Copy)]
+#[derive(Clone, Copy, Debug, PartialEq, Eq)]
 pub struct Counts {
     pub base: usize,
     pub seen: usize,
@@ -21,82 +31,90 @@ pub struct Counts {
     pub names: usize,
 }
 
-// What an entity does: it leads on, or a rule stops it.
-#[derive(Clone, Copy)]
-pub enum Move {
-    Goes(Counts),
-    Stops(u32),
+impl Counts {
+    // The same groups and names, with other cells in sight.
+    pub fn with_seen(self, seen: usize) -> Counts
+        ensures { result ≡ record { base = self.base; seen = seen; depth = self.depth; names = self.names } }
+    {
+        Counts { seen, ..self }
+    }
 }
 
-// Cells on the stack, hidden ones counted.
-pub const CELLS: usize = 1024;
+// What a check holds: its cells, what `base` was outside of each open group, the index of its names and what each of them is
+// (specs/Arrays.antt). Arrays of a fixed size have their counts beside them, for there is no heap. That they stand for a state
+// (specs/Stacks.antt, `Stands`) is no invariant of the type: `push`, `hide` and `show` promise to ask less than that.
+#[derive(Drop)]
+pub struct Stack {
+    pub cells: [u64; 1024],
+    pub bases: [u32; 64],
+    pub index: Index,
+    pub whats: [u64; 128],
+    pub counts: Counts,
+}
 
 // The kind of a cell: a count is a number.
 pub fn plain(c: u64) -> u64
     ensures { (result ≡ plain_of c) × (result < 16) }
 {
-    if c < 16 { c } else { 0 }
+    if c < KINDS { c } else { 0 }
 }
 
-// The same groups and names, with other cells in sight.
-pub fn with_seen(s: Counts, seen: usize) -> Counts
-    ensures { result ≡ record { base = s.base; seen = seen; depth = s.depth; names = s.names } }
-{
-    Counts {
-        base: s.base,
-        seen,
-        depth: s.depth,
-        names: s.names,
+impl Stack {
+    // One cell more (29).
+    pub fn push(&mut self, c: u64) -> Result<(), Refusal>
+        requires { cells_in self.old ≤ 1024 }
+        ensures answer { (text : List ℕ) → Stands text self.old
+            → Agrees (push_of limits kinds (state_in text self.old) (cell_of c)) text self.new result }
+        ensures err { OnErr result (self.new ≡ self.old) }
+        ensures kept { SameGroups self.old self.new × SameNames self.old self.new }
+    {
+        let s = self.counts;
+        let top = s.base + s.seen;
+        if CELLS <= top {
+            return Err(Refusal::TooManyCells);
+        }
+        self.cells[top] = c;
+        self.counts = s.with_seen(s.seen + 1);
+        Ok(())
     }
-}
 
-// One cell more, or 29.
-pub fn push(cells: &mut [u64; 1024], s: Counts, c: u64) -> Move
-    requires { s.base + s.seen ≤ 1024 }
-    ensures { (text bases index whats : List ℕ) → Standing text cells.old index whats s → Hiding bases s
-        → Agrees (push_of limits kinds (state_of text cells.old bases index whats s) (cell_of c)) text cells.new bases
-        index whats result }
-{
-    let top = s.base + s.seen;
-    if CELLS <= top {
-        return Move::Stops(29);
+    // Begin group hides all cells.
+    pub fn hide(&mut self)
+        requires { (self.old.counts.depth < 64) × (cells_in self.old ≤ 1024) }
+        ensures answer { (text : List ℕ) → Stands text self.old
+            → Agrees (hide_of limits kinds (state_in text self.old)) text self.new (Ok tt) }
+        ensures kept { SameCells self.old self.new × SameNames self.old self.new }
+    {
+        let s = self.counts;
+        self.bases[s.depth] = s.base as u32;
+        self.counts = Counts {
+            base: s.base + s.seen,
+            seen: 0,
+            depth: s.depth + 1,
+            ..s
+        };
     }
-    cells[top] = c;
-    Move::Goes(with_seen(s, s.seen + 1))
-}
 
-// Begin group hides all cells.
-pub fn hide(bases: &mut [u32; 64], s: Counts) -> Move
-    requires { (s.depth < 64) × (s.base + s.seen ≤ 1024) }
-    ensures { (text cells index whats : List ℕ) → Standing text cells index whats s → Hiding bases.old s
-        → Agrees (hide_of limits kinds (state_of text cells bases.old index whats s)) text cells bases.new index whats result }
-{
-    let depth = s.depth;
-    bases[depth] = s.base as u32;
-    Move::Goes(Counts {
-        base: s.base + s.seen,
-        seen: 0,
-        depth: depth + 1,
-        names: s.names,
-    })
-}
-
-// End group needs exactly one cell in sight (28), then shows the hidden ones again.
-pub fn show(bases: &[u32; 64], s: Counts) -> Move
-    requires { (0 < s.depth) × Hiding bases.now s × (s.base + s.seen ≤ 1024) }
-    ensures { (text cells index whats : List ℕ) → Standing text cells index whats s
-        → Agrees (show_of limits kinds (state_of text cells bases.now index whats s) (sight_of cells s.base s.seen)) text
-        cells bases.now index whats result }
-{
-    if s.seen != 1 {
-        return Move::Stops(28);
+    // End group needs exactly one cell in sight (28), then shows the hidden ones again.
+    pub fn show(&mut self) -> Result<(), Refusal>
+        requires { (0 < self.old.counts.depth) × Hidden self.old × (cells_in self.old ≤ 1024) }
+        ensures answer { (text : List ℕ) → Stands text self.old
+            → Agrees (show_of limits kinds (state_in text self.old) (sight_in self.old)) text self.new result }
+        ensures err { OnErr result (self.new ≡ self.old) }
+        ensures kept { SameCells self.old self.new × SameGroups self.old self.new × SameNames self.old self.new }
+    {
+        let s = self.counts;
+        if s.seen != 1 {
+            return Err(Refusal::NotOneCell);
+        }
+        let depth = s.depth - 1;
+        let base = self.bases[depth] as usize;
+        self.counts = Counts {
+            base,
+            seen: s.base + 1 - base,
+            depth,
+            ..s
+        };
+        Ok(())
     }
-    let depth = s.depth - 1;
-    let base = wide(bases[depth]);
-    Move::Goes(Counts {
-        base,
-        seen: s.base + 1 - base,
-        depth,
-        names: s.names,
-    })
 }

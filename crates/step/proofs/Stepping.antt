@@ -13,8 +13,8 @@ use Rattle.chars.specs.Stream.{stream_at, start}
 use Rattle.chars.proofs.Cases.{either}
 use Rattle.tokens.specs.Step.{reached, stepped, onward, told}
 use Rattle.tokens.specs.Tokens.{Sort, simple, quoted, curly, Whole, Tokens, token, last, refused, between, shown, first, tokens, token_at}
-use Rattle.tokens.specs.declared.Token.{Token}
-use Rattle.tokens.specs.declared.Token.TheVariants.{Simple, Quoted, Curly, Last, Refused}
+use Rattle.tokens.specs.Tokens.{Token}
+use Rattle.tokens.specs.Tokens.{Simple, Quoted, Curly, Last, Refused}
 use Rattle.tokens.proofs.OneByOne.{OneByOne, more, final, none, one_by_one}
 use Rattle.step.specs.Stepping.{Gives, stepping, reaching, goes_on, nth}
 use Rattle.step.specs.declared.Opened.{Opened}
@@ -25,7 +25,7 @@ module _ (place begun after prefix from n : ℕ) where
   abbrev whole : Sort → Whole
   whole sort = record { sort = sort; place = begun; after = after; prefix = prefix; from = from; length = n }
 
-  shown_onward : (sort : Sort) → onward place (shown (whole sort)) ≡ after
+  pub shown_onward : (sort : Sort) → onward place (shown (whole sort)) ≡ after
   unfolding onward shown
   shown_onward simple = refl
   shown_onward quoted = refl

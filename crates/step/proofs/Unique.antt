@@ -2,9 +2,13 @@
 use Prim.Native.Nat.{ℕ}
 use mathlib.Core.Path.{◌≡◌, refl, sym, ◌∙◌, ap}
 use denote.Ref.{Bor}
+use Rattle.std.proofs.Common.{Result, IfOk}
+use Rattle.chars.specs.declared.refusal.Refused.{Refused}
 use Rattle.chars.proofs.Only.{one, OneAnswer}
 use Rattle.tokens.specs.Step.{onward}
+use Rattle.tokens.specs.Told.{told_token, NoDataIn}
 use Rattle.tokens.specs.declared.Token.{Token}
+use Rattle.tokens.proofs.Told.{same_told}
 use Rattle.step.specs.Stepping.{Gives}
 use Rattle.step.specs.declared.Opened.{Opened}
 use Rattle.step.proofs as fn
@@ -16,7 +20,7 @@ pub by_opening : OneAnswer fn.by_opening.Kinds.ps fn.by_opening.Kinds.r fn.by_op
 by_opening κs given a b x y = one
 
 pub token : OneAnswer fn.token.Kinds.ps fn.token.Kinds.r fn.token.Reads.Post
-token κs given a b x y = one
+token κs given a b x y p q = same_told a b (one p.0 q.0) p.1 q.1
 
 pub onwards : OneAnswer fn.onward.Kinds.ps fn.onward.Kinds.r fn.onward.Reads.Post
 onwards κs given a b x y = one
@@ -29,12 +33,15 @@ same_opened o p d e = by_fields o.draft o.place d e
         → ◌≡◌ {A = Opened} (record { draft = draft; place = place }) p
     by_fields draft place d e = rw (d, e) refl
 
--- of `open` and `step`, by the words of their contracts: the opened draft, and the token with the opened draft behind it
+-- of `open` and `Opened::new`, and of `step` and `Opened::step`, by the words of their contracts: the opened draft, and the token with
+-- the opened draft behind it
 pub opened :
     (draft : Bor _) (a b : Opened) → (a.draft ≡ draft) × (a.place ≡ 0) → (b.draft ≡ draft) × (b.place ≡ 0) → a ≡ b
 opened draft a b p q = same_opened a b (one p.0 q.0) (one p.1 q.1)
 
-pub step : (o after after' : Opened) (t u : Token) → Gives o t after → Gives o u after' → (t ≡ u) × (after ≡ after')
-step o after after' t u p q =
+pub step :
+    (o after after' : Opened) (t u : Result Token Refused) → Gives o (told_token t) after → Gives o (told_token u) after'
+    → IfOk t NoDataIn → IfOk u NoDataIn → (t ≡ u) × (after ≡ after')
+step o after after' t u p q plain plain' =
     let same = one p.0 q.0 in
-    (same, same_opened after after' (one p.1 q.1) (p.2 ∙ (ap (onward o.place) same ∙ sym q.2)))
+    (same_told t u same plain plain', same_opened after after' (one p.1 q.1) (p.2 ∙ (ap (onward o.place) same ∙ sym q.2)))

@@ -1,7 +1,7 @@
 -- The answer of step in document 01's numbers, with the place reached.
 use Rattle.std.specs.Prelude.{ℕ}
 use Rattle.tokens.specs.Step.{told, onward}
-use Rattle.tokens.specs.declared.Token.{Token}
+use Rattle.tokens.specs.Tokens.{Token}
 use Rattle.step.specs.declared.Answer.{Answer}
 
 unfoldable pub answered : (next : ℕ) → Token → Answer

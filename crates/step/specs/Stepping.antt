@@ -3,8 +3,8 @@ use Rattle.std.specs.Prelude.{ℕ, zero, suc, ◌≡◌, Bool, true, false, List
 use Rattle.chars.specs.Limits.{Limits, limits}
 use Rattle.tokens.specs.Step.{stepped, onward}
 use Rattle.tokens.specs.Tokens.{Tokens, token, last, refused, shown}
-use Rattle.tokens.specs.declared.Token.{Token}
-use Rattle.tokens.specs.declared.Token.TheVariants.{Simple, Quoted, Curly, Last, Refused}
+use Rattle.tokens.specs.Tokens.{Token}
+use Rattle.tokens.specs.Tokens.{Simple, Quoted, Curly, Last, Refused}
 use Rattle.step.specs.declared.Opened.{Opened}
 
 -- what a step of an opened draft gives: the token, and the same draft opened at the place reached

@@ -2,13 +2,15 @@
 
 #![tactic(auto)]
 
-ghost use Rattle.std.specs.Prelude.{◌≡◌};
+ghost use Rattle.std.specs.Prelude.{◌≡◌, IfOk};
 ghost use Rattle.chars.specs.Limits.{limits};
 ghost use Rattle.tokens.specs.Step.{stepped, onward as onward_of, reached as reached_of};
+ghost use Rattle.tokens.specs.Told.{told_token, NoDataIn};
 ghost use Rattle.step.specs.Answer.{answered, answer_of};
 ghost use Rattle.step.specs.Stepping.{Gives};
 
 use chars::limits;
+use chars::refusal::{Refusal, Refused};
 use tokens::{Token, token_at};
 
 // An opened draft: the lent bytes together with the place reached.
@@ -18,7 +20,26 @@ pub struct Opened<'a> {
     pub place: usize,
 }
 
-// An answer in document 01's numbers, with the place reached. A number that an answer has no use for is 0.
+impl<'a> Opened<'a> {
+    // Opened at its start.
+    pub fn new(draft: &'a [u8]) -> Opened<'a>
+        ensures { result ≡ record { draft = draft.entry; place = 0 } }
+    {
+        Opened { draft, place: 0 }
+    }
+
+    // One token, behind which the draft is then opened.
+    pub fn step(&mut self) -> Result<Token, Refused>
+        ensures told { Gives self.old (told_token result) self.new }
+        ensures plain { IfOk result NoDataIn }
+    {
+        let t = token(self.draft, self.place);
+        self.place = onward(self.place, t);
+        t
+    }
+}
+
+// An answer in document 01's numbers, as C has it, with the place reached. A number that an answer has no use for is 0.
 #[repr(C)]
 #[derive(Clone, Copy)]
 pub struct Answer {
@@ -30,6 +51,28 @@ pub struct Answer {
     pub prefix: u64,
     pub length: u64,
     pub next: u64,
+}
+
+// All but the place reached.
+impl From<Result<Token, Refused>> for Answer {
+    ghost from_gives = { λ token a. IfOk token NoDataIn → a ≡ answered 0 (told_token token) };
+
+    fn from(token: Result<Token, Refused>) -> Answer {
+        let (number, place, after, sort, prefix, length) = match token {
+            Ok(Token::Whole(w)) => (0, w.place, w.after, w.sort as u64, w.prefix, w.length),
+            Ok(Token::Last { place, after }) => (0, place, after, 3, 0, 0),
+            Err(r) => (r.refusal.number(), r.place, 0, 0, 0, 0),
+        };
+        Answer {
+            number,
+            place: place as u64,
+            after: after as u64,
+            sort,
+            prefix: prefix as u64,
+            length: length as u64,
+            next: 0,
+        }
+    }
 }
 
 // Where the next token is looked for: at the draft's start a byte order mark is lost.
@@ -44,88 +87,34 @@ fn reached(draft: &[u8], place: usize) -> usize
 }
 
 // The token from a place of a draft on, or the refusal that comes first.
-pub fn token(draft: &[u8], place: usize) -> Token
-    ensures { result ≡ stepped limits draft.now place }
+pub fn token(draft: &[u8], place: usize) -> Result<Token, Refused>
+    ensures told { told_token result ≡ stepped limits draft.now place }
+    ensures plain { IfOk result NoDataIn }
 {
     if limits::DRAFT < draft.len() {
-        return Token::Refused {
-            number: 1,
-            place: 0,
-        };
+        return Err(Refusal::DraftTooLong.at(0));
     }
     token_at(draft, reached(draft, place))
 }
 
 // The place reached behind an answer: after `|;` or a refusal it stays, so that the answer is repeated.
-pub fn onward(place: usize, token: Token) -> usize
-    ensures { result ≡ onward_of place token }
+pub fn onward(place: usize, token: Result<Token, Refused>) -> usize
+    ensures { result ≡ onward_of place (told_token token) }
 {
     match token {
-        Token::Simple { after, .. } => after,
-        Token::Quoted { after, .. } => after,
-        Token::Curly { after, .. } => after,
-        Token::Last { .. } => place,
-        Token::Refused { .. } => place,
-    }
-}
-
-// The answer for a whole token.
-fn whole(place: usize, after: usize, sort: u64, prefix: usize, length: usize, next: u64) -> Answer
-    ensures { result ≡ record { number = 0; place = place; after = after; sort = sort; prefix = prefix; length = length; next = next } }
-{
-    Answer {
-        number: 0,
-        place: place as u64,
-        after: after as u64,
-        sort,
-        prefix: prefix as u64,
-        length: length as u64,
-        next,
-    }
-}
-
-// The answer for a refusal.
-fn refused(number: u32, place: usize, next: u64) -> Answer
-    ensures { result ≡ record { number = number; place = place; after = 0; sort = 0; prefix = 0; length = 0; next = next } }
-{
-    Answer {
-        number: number as u64,
-        place: place as u64,
-        after: 0,
-        sort: 0,
-        prefix: 0,
-        length: 0,
-        next,
+        Ok(Token::Whole(w)) => w.after,
+        Ok(Token::Last { .. }) => place,
+        Err(_) => place,
     }
 }
 
 // The answer of a token in document 01's numbers, with the place reached behind it.
-fn told(next: usize, token: Token) -> Answer
-    ensures { result ≡ answered next token }
+fn told(next: usize, token: Result<Token, Refused>) -> Answer
+    ensures { IfOk token NoDataIn → result ≡ answered next (told_token token) }
 {
-    let next = next as u64;
-    match token {
-        Token::Simple {
-            place,
-            after,
-            length,
-        } => whole(place, after, 0, length, 0, next),
-        Token::Quoted {
-            place,
-            after,
-            prefix,
-            length,
-            ..
-        } => whole(place, after, 1, prefix, length, next),
-        Token::Curly {
-            place,
-            after,
-            prefix,
-            length,
-            ..
-        } => whole(place, after, 2, prefix, length, next),
-        Token::Last { place, after } => whole(place, after, 3, 0, 0, next),
-        Token::Refused { number, place } => refused(number, place, next),
+    Answer {
+        next: next as u64,
+        ..Answer::from(token)
     }
 }
 
@@ -137,28 +126,27 @@ pub fn step_at(draft: &[u8], place: usize) -> Answer
     told(onward(place, t), t)
 }
 
-// Opens a draft at its start.
+// Opens a draft at its start. Document 01 names it and `step` as functions, and docs/STATEMENTS.md says what they promise.
 pub fn open<'a>(draft: &'a [u8]) -> Opened<'a>
     ensures { (result.draft ≡ draft.entry) × (result.place ≡ 0) }
 {
-    Opened { draft, place: 0 }
+    Opened::new(draft)
 }
 
 // One token of an opened draft, which is then opened at the place reached.
-pub fn step<'s, 'a>(opened: &'s mut Opened<'a>) -> Token
-    ensures { Gives opened.old result opened.new }
+pub fn step<'s, 'a>(opened: &'s mut Opened<'a>) -> Result<Token, Refused>
+    ensures told { Gives opened.old (told_token result) opened.new }
+    ensures plain { IfOk result NoDataIn }
 {
-    let t = token(opened.draft, opened.place);
-    opened.place = onward(opened.place, t);
-    t
+    opened.step()
 }
 
 // The same by an opened draft: it is opened, taken to the place and stepped, and the place told as reached is the one that it is at then.
 pub fn by_opening(draft: &[u8], place: usize) -> Answer
     ensures { result ≡ answer_of place (stepped limits draft.now place) }
 {
-    let mut opened = open(draft);
+    let mut opened = Opened::new(draft);
     opened.place = place;
-    let t = step(&mut opened);
+    let t = opened.step();
     told(opened.place, t)
 }

@@ -3,75 +3,36 @@
 
 #![tactic(auto)]
 
-ghost use Rattle.std.specs.Prelude.{◌≤◌, length};
-
-use input::read_full;
+use chars::refusal::Refused;
+use input::{Lines, read_full};
 use std::io;
-use step::{Answer, by_opening};
+use step::Opened;
+use tokens::{Token, Whole};
 
 const INPUT: usize = 65536;
 
-fn write_token(rt: &impl Print, a: Answer) -> io::Result<()> {
-    let place = a.place;
-    let after = a.after;
-    let sort = a.sort;
-    let prefix = a.prefix;
-    let length = a.length;
-    println!(rt; "{place} {after} {sort} {prefix} {length}")
-}
-
-// Writes an answer, and tells whether it is a token with more behind it.
-fn write_answer(rt: &impl Print, a: Answer) -> io::Result<bool> {
-    let number = a.number;
-    let place = a.place;
-    let after = a.after;
-    if number != 0 {
-        println!(rt; "refused {number} {place}")?;
-        return Ok(false);
-    }
-    if a.sort == 3 {
-        println!(rt; "last {place} {after}")?;
-        return Ok(false);
-    }
-    write_token(rt, a)?;
-    Ok(true)
+fn write_token(rt: &impl Print, w: Whole) -> io::Result<()> {
+    let Whole {
+        place,
+        after,
+        prefix,
+        length,
+        ..
+    } = w;
+    println!(rt; "{place} {after} {} {prefix} {length}", w.sort as u8)
 }
 
 // A draft from its opening on. A token takes a byte at least, so one step more than there are bytes comes to an end.
 fn step_through(rt: &impl Print, draft: &[u8]) -> io::Result<()> {
-    let mut left = draft.len();
-    let mut a = by_opening(draft, 0);
-    while write_answer(rt, a)? {
-        if left == 0 {
-            return Ok(());
+    let mut opened = Opened::new(draft);
+    for _ in 0..=draft.len() {
+        match opened.step() {
+            Ok(Token::Whole(w)) => write_token(rt, w)?,
+            Ok(Token::Last { place, after }) => return println!(rt; "last {place} {after}"),
+            Err(Refused { refusal, place }) => {
+                return println!(rt; "refused {} {place}", refusal.number());
+            }
         }
-        left -= 1;
-        a = by_opening(draft, a.next as usize);
-    }
-    Ok(())
-}
-
-// The place of the first LF from `from` on, or the input's length.
-fn line_end(input: &[u8], from: usize) -> usize
-    requires { from ≤ length input.now }
-    ensures { (from ≤ result) × (result ≤ length input.now) }
-{
-    let mut i = from;
-    while i < input.len() {
-        if input[i] == b'\n' {
-            return i;
-        }
-        i += 1;
-    }
-    i
-}
-
-fn each_line(rt: &impl Print, input: &[u8]) -> io::Result<()> {
-    let mut from = 0;
-    while from < input.len() {
-        let end = line_end(input, from);
-        step_through(rt, &input[from..end])?;
-        from = end + 1;
     }
     Ok(())
 }
@@ -79,5 +40,8 @@ fn each_line(rt: &impl Print, input: &[u8]) -> io::Result<()> {
 fn main(rt: HostRuntime) -> io::Result<()> {
     let mut input = [0u8; INPUT];
     let length = read_full(&mut rt.reader(), &mut input)?;
-    each_line(&rt, &input[..length])
+    for line in Lines::of(&input[..length]) {
+        step_through(&rt, line)?;
+    }
+    Ok(())
 }

@@ -10,6 +10,10 @@ use lib.Dec.{eqb, leb, ltb}
 use lib.ListN.{length, get_or, length-append}
 use borrow.Author.Tests.{ne_eqb, eqb-true, lt-ltb, le-ltb, le-leb, leb-true, leb-false, not-true}
 use Rattle.chars.proofs.Cases.{either, both}
+use Rattle.std.specs.Prelude.{Result, Ok, Err}
+use Rattle.chars.specs.Refusal.{number_of}
+use Rattle.chars.specs.declared.refusal.Refusal.{Refusal}
+use Rattle.chars.specs.declared.refusal.Refusal.TheVariants.{SemicolonOutside, NoGroup, TooManyGroups, ListFull}
 use Rattle.entities.specs.Entity.{Entity, bare, sizes}
 use Rattle.entities.specs.Making.{Reader, Room, Judged, refuses, makes, holds, fitted, handled, within_groups, shortage}
 use Rattle.entities.specs.Making.{group_begins, group_ends, element_ends, regular, judged, closing}
@@ -17,21 +21,23 @@ use Rattle.entities.specs.Judging.{bares, one, kind_of, written}
 use Rattle.entities.specs.Stepping.{Ready, Steady, open_groups, below, room_left, reader_of, agrees, Took, Goes, Stops, took, judged_as}
 use Rattle.entities.specs.Stepping.{closing_as, Ruled}
 use Rattle.entities.specs.Stepping.{entered_by, entered_groups, lead_of, led_by, Leads, Led, refused, leads, brings_by, refused_behind}
-use Rattle.entities.specs.Stepping.{own_behind, Told, structural}
+use Rattle.entities.specs.Stepping.{own_behind, Told, structural, bracketed, commanded}
 use Rattle.entities.specs.declared.state.State.{State}
-use Rattle.entities.specs.declared.state.Step.{Step}
+use Rattle.entities.specs.declared.state.Mode.TheVariants.{Regular}
 use Rattle.entities.proofs.OpenGroups.{so_many}
 use Rattle.entities.proofs.Listing.{written_none, written_length}
 use Rattle.entities.proofs.Cutting.{bare_first, bare_text}
 use Rattle.entities.proofs.Shortages.{bare_one}
 use Rattle.entities.proofs.Fitting.{Empty, nothing, more, empty_bares, empty_sizes, empty_short, stopped, went}
 use Rattle.entities.proofs.Entering.{too_many, no_room}
-use Rattle.structure.proofs.Alone.{one_of_seven, told}
+use Rattle.structure.proofs.Alone.{one_of_seven, told, same_took}
 
 -- What a token is judged to be with the begin group open that it brings: refused, or so many entities without text.
 pub data Behind (c depth : ℕ) : Judged → Type 0 where
-  no : (n : ℕ) → refused_behind c depth ≡ n → (n ≡ 0 → ⊥) → Behind c depth (refuses n)
-  some : (es : List Entity) (q : Reader) → refused_behind c depth ≡ 0 → length es ≡ own_behind c → Empty es → Behind c depth (makes es q)
+  no : (n : Refusal) → refused_behind c depth ≡ Err n → Behind c depth (refuses (number_of n))
+  some :
+      (es : List Entity) (q : Reader) → refused_behind c depth ≡ Ok tt → length es ≡ own_behind c → Empty es
+      → Behind c depth (makes es q)
 
 module _ (gs : List ℕ) (depth place : ℕ) (deep : length gs ≡ depth) where
   abbrev comes : (T : List ℕ) → Judged
@@ -44,14 +50,14 @@ module _ (gs : List ℕ) (depth place : ℕ) (deep : length gs ≡ depth) where
       (either (leb 64 (depth + 1))
       (λ t.
       rw (le-ltb (suc (length gs)) 64 (omega (arith, leb-true 64 (depth + 1) t)))
-      (no 17 (rw t) (λ z. omega arith)))
+      (no TooManyGroups (rw t)))
       (λ t.
       rw (lt-ltb (suc (length gs)) 64 (omega (arith, leb-false 64 (depth + 1) t)))
       (some _ _ (rw t) refl (more _ [] refl refl nothing))))
 
   ends : (T : List ℕ) → get_or T 0 0 ≡ 0x29 → Behind 0x29 depth (comes T)
   unfolding judged_as judged regular within_groups group_ends refused_behind
-  ends T e = rw e (no 14 refl (λ z. omega arith))
+  ends T e = rw e (no NoGroup refl)
 
   opens : (T : List ℕ) → get_or T 0 0 ≡ 0x5B → Behind 0x5B depth (comes T)
   unfolding judged_as judged regular within_groups refused_behind own_behind
@@ -67,7 +73,7 @@ module _ (gs : List ℕ) (depth place : ℕ) (deep : length gs ≡ depth) where
 
   over : (T : List ℕ) → get_or T 0 0 ≡ 0x3B → Behind 0x3B depth (comes T)
   unfolding judged_as judged regular within_groups refused_behind
-  over T e = rw e (no 11 refl (λ z. omega arith))
+  over T e = rw e (no SemicolonOutside refl)
 
   -- each of the seven but `]`
   pub behind :
@@ -82,9 +88,9 @@ module _ (gs : List ℕ) (depth place : ℕ) (deep : length gs ≡ depth) where
       (λ t5. let k = eqb-true c 0x3B (rw (t1, t2, t3, t4, f, t5) at seven) in rw k (over T (e ∙ k)))))))
 
 refuses_of :
-    (c depth : ℕ) (j : Judged) → Behind c depth j → (n : ℕ) → refused_behind c depth ≡ n → (n ≡ 0 → ⊥) → j ≡ refuses n
-refuses_of c depth j (no m e z) n is some-n = ap refuses (sym e ∙ is)
-refuses_of c depth j (some es q e many x) n is some-n = absurd (some-n (sym is ∙ e))
+    (c depth : ℕ) (j : Judged) → Behind c depth j → (n : Refusal) → refused_behind c depth ≡ Err n → j ≡ refuses (number_of n)
+refuses_of c depth j (no m e) n is = let same : m ≡ n = cc in rw same
+refuses_of c depth j (some es q e many x) n is = absurd (cc)
 
 -- it is so many entities without text
 record Makes (c : ℕ) (j : Judged) : Type 0 where
@@ -94,51 +100,51 @@ record Makes (c : ℕ) (j : Judged) : Type 0 where
   many : length es ≡ own_behind c
   empty : Empty es
 
-makes_of : (c depth : ℕ) (j : Judged) → Behind c depth j → refused_behind c depth ≡ 0 → Makes c j
-makes_of c depth j (no n e z) none = absurd (z (sym e ∙ none))
+makes_of : (c depth : ℕ) (j : Judged) → Behind c depth j → refused_behind c depth ≡ Ok tt → Makes c j
+makes_of c depth j (no n e) none = absurd (cc)
 makes_of c depth j (some es q e many x) none = record { es = es; q = q; is = refl; many = many; empty = x }
 
 module _ (c : ℕ) (s : State) (list groups : List ℕ) (place : ℕ) where
   abbrev gs : List ℕ
   gs = open_groups groups s.depth
 
-  brings_here : (T : List ℕ) → get_or T 0 0 ≡ c → (eqb s.mode 1 && not (closing_as 0 T)) ≡ brings_by s.mode c
+  brings_here : (T : List ℕ) → get_or T 0 0 ≡ c → (bracketed s.mode && not (closing_as 0 T)) ≡ brings_by s.mode c
   unfolding closing_as closing
   brings_here T e = rw e
 
   module _ (t : brings_by s.mode c ≡ true) (groups' : List ℕ) where
-    pub too_deep : 64 ≤ s.depth → Told c s list groups place (Stops 17 s) list groups'
+    pub too_deep : 64 ≤ s.depth → Told c s list groups place (Stops (number_of TooManyGroups) s) list groups'
     too_deep h T text e ready =
         too_many s list text groups place (closing_as 0 T) (λ q. judged_as 0 q place T [])
         (rw (brings_here T e ∙ t) (le-leb 64 s.depth h)) groups'
 
     module _ (shallow : s.depth < 64) where
-      pub no_group : length list - 6 * s.entities < 6 → Told c s list groups place (Stops 18 s) list groups'
+      pub no_group : length list - 6 * s.entities < 6 → Told c s list groups place (Stops (number_of ListFull) s) list groups'
       no_group h T text e ready =
           no_room s list text groups place (closing_as 0 T) (λ q. judged_as 0 q place T []) (λ u. shallow) ready.held
           (rw (brings_here T e ∙ t) (lt-ltb (length list - 6 * s.entities) 6 h)) groups'
 
       module _ (range : c < 256) (alone : structural c ≡ true) (roomy : 6 ≤ length list - 6 * s.entities) where
         other : eqb c 0x5D ≡ false
-        other = not-true (eqb c 0x5D) (both (eqb s.mode 1) (not (eqb c 0x5D)) t).1
+        other = not-true (eqb c 0x5D) (both (bracketed s.mode) (not (eqb c 0x5D)) t).1
 
         judged_here : (T : List ℕ) → get_or T 0 0 ≡ c → Behind c s.depth (judged_as 0 (within_groups (1 ∷ gs)) place T [])
         judged_here T e = behind gs s.depth place (so_many groups s.depth) c range alone other T e
 
         pub by_its_rules :
-            (n : ℕ) → refused_behind c s.depth ≡ n → (n ≡ 0 → ⊥) → Told c s list groups place (Stops n s) list groups'
+            (n : Refusal) → refused_behind c s.depth ≡ Err n → Told c s list groups place (Stops (number_of n) s) list groups'
         unfolding handled reader_of room_left agrees fitted
-        by_its_rules n is some-n T text e ready =
+        by_its_rules n is T text e ready =
             rw (
               brings_here T e ∙ t,
               lt-ltb (length gs) 64 (omega (arith, so_many groups s.depth)),
               ne_eqb (length list / 6 - s.entities) 0 (λ z. omega (arith, ready.held)),
-              refuses_of c s.depth _ (judged_here T e) n is some-n,
+              refuses_of c s.depth _ (judged_here T e) n is,
             ) (refl, refl, refl, refl, refl)
 
         pub no_rows :
-            refused_behind c s.depth ≡ 0 → length list - 6 * s.entities < 6 + 6 * own_behind c
-            → Told c s list groups place (Stops 18 s) list groups'
+            refused_behind c s.depth ≡ Ok tt → length list - 6 * s.entities < 6 + 6 * own_behind c
+            → Told c s list groups place (Stops (number_of ListFull) s) list groups'
         unfolding handled reader_of room_left bares kind_of
         no_rows none few T text e ready =
             let m = makes_of c s.depth _ (judged_here T e) none in
@@ -219,9 +225,9 @@ group_fits s list n place fits = omega (arith, bare_one 6 place)
 -- with the group written all is as steady as before
 steady_led :
     (b : Bool) (s : State) (list list₁ groups pushed : List ℕ) (place : ℕ) → (b ≡ true → s.depth < 64)
-    → (b ≡ true → 6 * (s.entities + 1) ≤ length list) → length list₁ ≡ length list → eqb s.mode 2 ≡ false → length pushed ≡ 64
+    → (b ≡ true → 6 * (s.entities + 1) ≤ length list) → length list₁ ≡ length list → commanded s.mode ≡ false → length pushed ≡ 64
     → open_groups pushed (entered_by b s).depth ≡ entered_groups b (open_groups groups s.depth) → Steady s list groups place
-    → (eqb (led_by b s).mode 2 ≡ false) × Steady (led_by b s) list₁ pushed place
+    → (commanded (led_by b s).mode ≡ false) × Steady (led_by b s) list₁ pushed place
 unfolding led_by entered_by entered_groups below
 steady_led true s list list₁ groups pushed place shallow fits long regularly array so steady =
     let few = shallow refl in
@@ -247,25 +253,25 @@ steady_led false s list list₁ groups pushed place shallow fits long regularly 
 )
 
 -- Ruled behind the group that was written, it is ruled with it.
-module _ (c : ℕ) (range : c < 256) (alone : structural c ≡ true) (place : ℕ) (r : Step) (list' groups' : List ℕ) where
+module _ (c : ℕ) (range : c < 256) (alone : structural c ≡ true) (place : ℕ) where
   no_lead : (list : List ℕ) (k t : ℕ) → written list k t (bares 0 place) ≡ list
   unfolding bares
   no_lead list k t = written_none list k t
 
   raised_behind :
-      (s : State) (list list₁ groups pushed : List ℕ) → eqb c 0x5D ≡ false
+      (r : Result State Refusal) (list' groups' : List ℕ) (s : State) (list list₁ groups pushed : List ℕ) → eqb c 0x5D ≡ false
       → list₁ ≡ written list s.entities s.text (bares 6 place)
-      → open_groups pushed (s.depth + 1) ≡ 1 ∷ open_groups groups s.depth → refused_behind c s.depth ≡ 0
+      → open_groups pushed (s.depth + 1) ≡ 1 ∷ open_groups groups s.depth → refused_behind c s.depth ≡ Ok tt
       → 6 * (s.entities + 1 + own_behind c) ≤ length list
-      → Ruled c 0 (record { mode = 0; depth = s.depth + 1; entities = s.entities + 1; text = s.text }) list₁ pushed place r list'
+      → Ruled c 0 (record { mode = Regular; depth = s.depth + 1; entities = s.entities + 1; text = s.text }) list₁ pushed place r list'
       groups'
-      → Ruled c 6 (record { mode = 0; depth = s.depth + 1; entities = s.entities; text = s.text }) list pushed place r list' groups'
+      → Ruled c 6 (record { mode = Regular; depth = s.depth + 1; entities = s.entities; text = s.text }) list pushed place r list' groups'
   unfolding Ruled reader_of within_groups
-  raised_behind s list list₁ groups pushed other led so none fits ruled T text e ready =
+  raised_behind r list' groups' s list list₁ groups pushed other led so none fits ruled T text e ready =
       let gs = open_groups groups s.depth in
       let m = makes_of c s.depth _ (behind gs s.depth place (so_many groups s.depth) c range alone other T e) none in
-      let inner : State = record { mode = 0; depth = s.depth + 1; entities = s.entities; text = s.text } in
-      let t : State = record { mode = 0; depth = s.depth + 1; entities = s.entities + 1; text = s.text } in
+      let inner : State = record { mode = Regular; depth = s.depth + 1; entities = s.entities; text = s.text } in
+      let t : State = record { mode = Regular; depth = s.depth + 1; entities = s.entities + 1; text = s.text } in
       let long : length list₁ ≡ length list = rw led (written_length list s.entities s.text (bares 6 place) (group_fits s list
       (own_behind c) place fits)) in
       let room_in : length list₁ / 6 ≡ length list / 6 = rw long in
@@ -282,76 +288,78 @@ module _ (c : ℕ) (range : c < 256) (alone : structural c ≡ true) (place : �
       }) in
       let here = rw (so, m.is) at done in
       rw (so, m.is)
-      (onward s inner t list list₁ text pushed groups' place m.es m.q m.empty refl refl refl refl led all ready (took r) _ list'
-      (held t list₁ text m.es m.q m.empty (omega (arith, long, all)) place (took r) list' groups' here))
+      (same_took t inner _ r list text list' text groups' place
+      (onward s inner t list list₁ text pushed groups' place m.es m.q m.empty refl refl refl refl led all ready (took t r) _ list'
+      (held t list₁ text m.es m.q m.empty (omega (arith, long, all)) place (took t r) list' groups' here)))
 
   pub raised :
-      (b : Bool) (s : State) (list list₁ groups pushed : List ℕ) → (b ≡ true → eqb c 0x5D ≡ false)
+      (r : Result State Refusal) (list' groups' : List ℕ) (b : Bool) (s : State) (list list₁ groups pushed : List ℕ)
+      → (b ≡ true → eqb c 0x5D ≡ false)
       → list₁ ≡ written list s.entities s.text (bares (lead_of b) place)
       → open_groups pushed (entered_by b s).depth ≡ entered_groups b (open_groups groups s.depth)
-      → (b ≡ true → (refused_behind c s.depth ≡ 0) × (6 * (s.entities + 1 + own_behind c) ≤ length list))
+      → (b ≡ true → (refused_behind c s.depth ≡ Ok tt) × (6 * (s.entities + 1 + own_behind c) ≤ length list))
       → Ruled c 0 (led_by b s) list₁ pushed place r list' groups' → Ruled c (lead_of b) (entered_by b s) list pushed place r list' groups'
   unfolding led_by entered_by entered_groups lead_of
-  raised false s list list₁ groups pushed other led so may ruled =
+  raised r list' groups' false s list list₁ groups pushed other led so may ruled =
       rw (led ∙ no_lead list s.entities s.text) at ruled
-  raised true s list list₁ groups pushed other led so may ruled =
+  raised r list' groups' true s list list₁ groups pushed other led so may ruled =
       let says = may refl in
-      raised_behind s list list₁ groups pushed (other refl) led so says.0 says.1 ruled
+      raised_behind r list' groups' s list list₁ groups pushed (other refl) led so says.0 says.1 ruled
 
   module _ (s : State) (list groups : List ℕ) where
     pub led_stopped :
-        (x y : Step) (list₁ pushed : List ℕ) → Led c s list groups place x list₁ pushed → (x.number ≡ 0 → ⊥)
-        → y ≡ record { number = x.number; state = s } → Told c s list groups place (took y) list₁ pushed
+        (n : Refusal) (list₁ pushed : List ℕ) → Led c s list groups place (Err n) list₁ pushed
+        → Told c s list groups place (took s (Err n)) list₁ pushed
     unfolding took
-    led_stopped x y list₁ pushed (refused n some-n is told) other e T text first ready =
-        rw (e, is, ne_eqb n 0 some-n) (told T text first ready)
-    led_stopped x y list₁ pushed (leads l may) other e T text first ready = absurd (other (ap (λ z. z.number) l.is))
+    led_stopped n list₁ pushed (refused m is told) = let same : n ≡ m = cc is in rw same told
+    led_stopped n list₁ pushed (leads l may) = absurd (cc l.is)
 
     pub led_leads :
-        (x : Step) (list₁ pushed : List ℕ) → Led c s list groups place x list₁ pushed → x.number ≡ 0
-        → Leads (brings_by s.mode c) s list groups place x list₁ pushed
-    led_leads x list₁ pushed (refused n some-n is told) none = absurd (some-n (sym (ap (λ z. z.number) is) ∙ none))
-    led_leads x list₁ pushed (leads l may) none = l
+        (t : State) (list₁ pushed : List ℕ) → Led c s list groups place (Ok t) list₁ pushed
+        → Leads (brings_by s.mode c) s list groups place (Ok t) list₁ pushed
+    led_leads t list₁ pushed (refused n is told) = absurd (cc is)
+    led_leads t list₁ pushed (leads l may) = l
 
     led_fits :
-        (x : Step) (list₁ pushed : List ℕ) → Led c s list groups place x list₁ pushed → x.number ≡ 0 → brings_by s.mode c ≡ true
+        (t : State) (list₁ pushed : List ℕ) → Led c s list groups place (Ok t) list₁ pushed → brings_by s.mode c ≡ true
         → 6 * (s.entities + 1) ≤ length list
-    led_fits x list₁ pushed (refused n some-n is told) none t = absurd (some-n (sym (ap (λ z. z.number) is) ∙ none))
-    led_fits x list₁ pushed (leads l may) none t = let says = may t in omega (arith, says.1)
+    led_fits t list₁ pushed (refused n is told) b = absurd (cc is)
+    led_fits t list₁ pushed (leads l may) b = let says = may b in omega (arith, says.1)
 
     -- what is ready to be ruled
     pub led_steady :
-        (x : Step) (list₁ pushed : List ℕ) → Led c s list groups place x list₁ pushed → x.number ≡ 0 → length list₁ ≡ length list
-        → eqb s.mode 2 ≡ false → Steady s list groups place → (eqb x.state.mode 2 ≡ false) × Steady x.state list₁ pushed place
-    led_steady x list₁ pushed led none long regularly steady =
-        let l = led_leads x list₁ pushed led none in
-        let is : x.state ≡ led_by (brings_by s.mode c) s = ap (λ z. z.state) l.is in
+        (t : State) (list₁ pushed : List ℕ) → Led c s list groups place (Ok t) list₁ pushed → length list₁ ≡ length list
+        → commanded s.mode ≡ false → Steady s list groups place → (commanded t.mode ≡ false) × Steady t list₁ pushed place
+    led_steady t list₁ pushed led long regularly steady =
+        let l = led_leads t list₁ pushed led in
+        let is : t ≡ led_by (brings_by s.mode c) s = cc l.is in
         rw is
-        (steady_led (brings_by s.mode c) s list list₁ groups pushed place l.shallow (led_fits x list₁ pushed led none) long regularly
+        (steady_led (brings_by s.mode c) s list list₁ groups pushed place l.shallow (led_fits t list₁ pushed led) long regularly
         l.array l.opens steady)
 
     -- what the token did
     pub led_told :
-        (x : Step) (list₁ pushed : List ℕ) → Led c s list groups place x list₁ pushed → x.number ≡ 0
-        → Ruled c 0 x.state list₁ pushed place r list' groups' → Told c s list groups place (took r) list' groups'
-    led_told x list₁ pushed (refused n some-n is told) none ruled = absurd (some-n (sym (ap (λ z. z.number) is) ∙ none))
-    led_told x list₁ pushed (leads l may) none ruled =
+        (r : Result State Refusal) (list' groups' : List ℕ) (t : State) (list₁ pushed : List ℕ)
+        → Led c s list groups place (Ok t) list₁ pushed
+        → Ruled c 0 t list₁ pushed place r list' groups' → Told c s list groups place (took s r) list' groups'
+    led_told r list' groups' t list₁ pushed (refused n is told) ruled = absurd (cc is)
+    led_told r list' groups' t list₁ pushed (leads l may) ruled =
         let b = brings_by s.mode c in
-        let is : x.state ≡ led_by b s = ap (λ z. z.state) l.is in
+        let is : t ≡ led_by b s = cc l.is in
         let other : b ≡ true → eqb c 0x5D ≡ false =
-        λ t. not-true (eqb c 0x5D) (both (eqb s.mode 1) (not (eqb c 0x5D)) t).1 in
+        λ t. not-true (eqb c 0x5D) (both (bracketed s.mode) (not (eqb c 0x5D)) t).1 in
         let free : (b && ltb (length list - 6 * s.entities) 6) ≡ false =
         either b
         (λ t. let says = may t in rw t (le-ltb (length list - 6 * s.entities) 6 (omega (arith, says.1))))
         (λ t. rw t) in
         told s list groups place c b refl l.shallow free (entered_by b s) refl pushed l.array l.opens (lead_of b) refl r list'
         groups'
-        (raised b s list list₁ groups pushed other l.list_is l.opens may (rw is at ruled))
+        (raised r list' groups' b s list list₁ groups pushed other l.list_is l.opens may (rw is at ruled))
 
 -- no begin group is brought
 pub not_led :
     (c : ℕ) (s : State) (list groups : List ℕ) (place : ℕ) → brings_by s.mode c ≡ false → length groups ≡ 64
-    → Led c s list groups place (record { number = 0; state = s }) list groups
+    → Led c s list groups place (Ok s) list groups
 unfolding led_by entered_by entered_groups lead_of bares
 not_led c s list groups place f array =
     leads
@@ -367,11 +375,11 @@ not_led c s list groups place f array =
 -- one is brought and written
 pub is_led :
     (c : ℕ) (s : State) (list groups : List ℕ) (place : ℕ) → brings_by s.mode c ≡ true → s.depth < 64
-    → refused_behind c s.depth ≡ 0 → 6 * (s.entities + 1 + own_behind c) ≤ length list → (t : State) (list₁ pushed : List ℕ)
-    → t ≡ record { mode = 0; depth = s.depth + 1; entities = s.entities + 1; text = s.text }
+    → refused_behind c s.depth ≡ Ok tt → 6 * (s.entities + 1 + own_behind c) ≤ length list → (t : State) (list₁ pushed : List ℕ)
+    → t ≡ record { mode = Regular; depth = s.depth + 1; entities = s.entities + 1; text = s.text }
     → list₁ ≡ written list s.entities s.text (bares 6 place) → length pushed ≡ 64
     → open_groups pushed (s.depth + 1) ≡ 1 ∷ open_groups groups s.depth
-    → Led c s list groups place (record { number = 0; state = t }) list₁ pushed
+    → Led c s list groups place (Ok t) list₁ pushed
 unfolding led_by entered_by entered_groups lead_of
 is_led c s list groups place b shallow none fits t list₁ pushed is led array so =
     leads

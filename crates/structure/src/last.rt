@@ -5,31 +5,34 @@ ghost use Rattle.entities.specs.Making.{handled, judged_last};
 ghost use Rattle.entities.specs.Stepping.{Ready, Steady, room_left, reader_of, agrees, took};
 
 use chars::limits;
-use entities::bare::{one, stops};
-use entities::state::{State, Step};
+use chars::refusal::Refusal;
+use entities::bare::one;
+use entities::state::{Mode, State};
+use holding::rows::Kind;
 
-pub fn last(list: &mut [u32], groups: &[u16], s: State, place: usize) -> Step
+pub fn last(list: &mut [u32], groups: &[u16], s: State, place: usize) -> Result<State, Refusal>
     requires { (place < 16384) × Steady s list.old groups.now place }
     ensures { (text : List ℕ) → Ready s list.old text groups.now place
         → agrees (handled base (room_left s list.old text) (reader_of s groups.now) false place
-        (λ q. judged_last q place)) (took result) s list.old text list.new text groups.now place }
+        (λ q. judged_last q place)) (took s result) s list.old text list.new text groups.now place }
 {
-    let mode = s.mode;
     let depth = s.depth;
-    if mode == 1 {
-        if limits::GROUPS <= depth {
-            return stops(17, s);
+    match s.mode {
+        Mode::Bracket => {
+            if limits::GROUPS <= depth {
+                return Err(Refusal::TooManyGroups);
+            }
+            if list.len() - 6 * s.entities < 6 {
+                return Err(Refusal::ListFull);
+            }
+            Err(Refusal::LastInGroup)
         }
-        if list.len() - 6 * s.entities < 6 {
-            return stops(18, s);
+        Mode::Metacommand => Err(Refusal::LastInMetacommand),
+        Mode::Regular => {
+            if depth != 0 {
+                return Err(Refusal::LastInGroup);
+            }
+            one(list, s, Kind::End, place, Mode::Regular, 0)
         }
-        return stops(13, s);
     }
-    if mode == 2 {
-        return stops(12, s);
-    }
-    if depth != 0 {
-        return stops(13, s);
-    }
-    one(list, s, 17, place, 0, 0)
 }

@@ -1,19 +1,21 @@
--- Eight bytes are zeros if and only if their number is 0, and those behind the first `n` are if and only if it is below 256 ^ n.
-use mathlib.Core.Path.{◌≡◌, sym, ◌∙◌}
-use mathlib.Core.Bool.{◌&&◌}
-use mathlib.Core.List.{List}
-use Prim.Native.Nat.{ℕ, zero, suc, ◌+◌, ◌-◌, ◌/◌, ◌%◌, ◌^◌, ◌<◌, ◌≤◌}
+-- Of eight bytes those behind the first `n` are zeros if and only if their number has no more than `n` bytes; and bytes are zeros if and
+-- only if their bits together are 0.
+use mathlib.Core.Path.{◌≡◌, refl, sym, ◌∙◌}
+use mathlib.Core.Bool.{◌&&◌, and_assoc, and-true}
+use mathlib.Core.List.{List, [], ◌∷◌}
+use Prim.Native.Nat.{ℕ, zero, suc, ◌+◌, ◌-◌, ◌*◌, ◌/◌, ◌%◌, ◌^◌, ◌<◌, ◌≤◌}
 use native.Mathlib.Omega.{arith}
-use native.Mathlib.Nat.{pow-suc}
+use native.Mathlib.Nat.{pow-suc, div-eq_of_lt, lt-div-mul-add}
+use Rattle.std.proofs.lemmas.Nat.{pow-add, pow_pos}
 use lib.Bits.{bit_or, or_add_and, and_le_l, and_le_r}
 use lib.Dec.{ltb, eqb}
 use lib.ListN.{take, drop}
-use lib.Seq.{take-add, drop-drop}
+use lib.Seq.{drop-drop}
 use borrow.Author.Tests.{lt-ltb, le-ltb, eq-eqb, ne_eqb, eqb-true}
 use Rattle.chars.proofs.Cases.{either, by_bound}
+use Rattle.std.specs.List.{fold}
 use Rattle.tokens.specs.Runs.{bytes_of}
 use Rattle.table.specs.Table.{all_below}
-use Rattle.table.proofs.Below.{below_append}
 use Rattle.table.proofs.Rows.{drop_take}
 
 -- two tests of numbers that pass together
@@ -54,6 +56,23 @@ or_zero x y =
     (λ t. rw (t, ne_eqb y 0 (λ e. omega (arith, eqb-true x 0 t))))
     (λ t. rw t)))
 
+bytes_pow : (n : ℕ) → 2 ^ (8 * n) ≡ 256 ^ n
+bytes_pow zero = refl
+bytes_pow (suc n) =
+    let more : 8 * suc n ≡ 8 * n + 8 = omega arith in
+    rw (more, pow-add 2 (8 * n) 8, bytes_pow n, pow-suc 256 n)
+
+-- a number has no more than `n` bytes if and only if none is left without these
+pub no_more_bytes : (w n : ℕ) → ltb w (256 ^ n) ≡ eqb (w / 2 ^ (8 * n)) 0
+no_more_bytes w n =
+    let some = pow_pos (8 * n) in
+    let below : w < w / 2 ^ (8 * n) * 2 ^ (8 * n) + 2 ^ (8 * n) = lt-div-mul-add some in
+    by_bound w (2 ^ (8 * n))
+    (λ l. rw (← bytes_pow n, lt-ltb w (2 ^ (8 * n)) l, div-eq_of_lt l))
+    (λ g.
+    rw (← bytes_pow n, le-ltb w (2 ^ (8 * n)) g)
+    (sym (ne_eqb (w / 2 ^ (8 * n)) 0 (λ z. let low = rw z at below in omega arith))))
+
 module _ (s : List ℕ) (at w : ℕ) (e : bytes_of 8 w ≡ take 8 (drop at s)) (small : w < 2 ^ 64) where
   -- the number of eight bytes, and those behind the first `n`
   pub behind_zeros : (n : ℕ) → n ≤ 8 → all_below 1 (take (8 - n) (drop (at + n) s)) ≡ ltb w (256 ^ n)
@@ -61,13 +80,12 @@ module _ (s : List ℕ) (at w : ℕ) (e : bytes_of 8 w ≡ take 8 (drop at s)) (
       let whole : n + (8 - n) ≡ 8 = omega arith in
       rw (← drop-drop n at s, ← drop_take n (8 - n) (drop at s), whole, ← e) (high_zeros n 8 w h small)
 
-  pub eight_zeros : all_below 1 (take 8 (drop at s)) ≡ eqb w 0
-  eight_zeros = rw (← e) (high_zeros 0 8 w (omega arith) small ∙ below_one w)
+-- the bits of all bytes together are 0 if and only if each byte is
+joined_zeros : (a : ℕ) (s : List ℕ) → eqb (fold bit_or a s) 0 ≡ eqb a 0 && all_below 1 s
+unfolding all_below
+joined_zeros a [] = sym (and-true (eqb a 0))
+joined_zeros a (x ∷ s) =
+    rw (joined_zeros (bit_or a x) s, ← or_zero a x, below_one x) (and_assoc (eqb a 0) (eqb x 0) (all_below 1 s))
 
--- the bytes of a part and of the next one, each told by a number
-pub both_zeros :
-    (s : List ℕ) (at m n x y : ℕ) → all_below 1 (take m (drop at s)) ≡ eqb x 0 → all_below 1 (take n (drop (at + m) s)) ≡ eqb y 0
-    → all_below 1 (take (m + n) (drop at s)) ≡ eqb (bit_or x y) 0
-both_zeros s at m n x y e f =
-    rw (take-add m n (drop at s), drop-drop m at s)
-    (below_append 1 (take m (drop at s)) (take n (drop (at + m) s)) ∙ rw (e, f) (or_zero x y))
+pub all_zeros : (s : List ℕ) → eqb (fold bit_or 0 s) 0 ≡ all_below 1 s
+all_zeros s = joined_zeros 0 s

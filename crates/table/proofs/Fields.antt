@@ -1,4 +1,4 @@
--- When a field is sound (specs/Table.antt, field-sound): it has no more entries than room, each below the bound, and zeros behind them.
+-- When a field is sound (specs/Table.antt, field_sound): it has no more entries than room, each below the bound, and zeros behind them.
 use mathlib.Core.Path.{◌≡◌}
 use mathlib.Core.Bool.{true, false, ◌&&◌, and-true, and-false}
 use mathlib.Core.List.{List}

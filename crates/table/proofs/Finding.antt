@@ -11,11 +11,17 @@ use lib.ListN.{get_or, take, drop}
 use borrow.Author.Tests.{ne_eqb}
 use Rattle.chars.specs.Choice.{same}
 use Rattle.chars.proofs.Cases.{either}
-use Rattle.names.specs.Index.{key_of, position}
+use Rattle.std.proofs.Common.{Option, Some, None, is_some}
+use Rattle.names.specs.Index.{key_of, position, found_of}
 use Rattle.table.specs.Table.{row_sound, operation_of, find, found}
 use Rattle.table.specs.Entered.{Entered, row_count, row_place, row_from, operations_of, operation_at, last_operations, newly}
 use Rattle.table.proofs.Rows.{row_name}
 use Rattle.table.proofs.Last.{next_operation, no_operations}
+
+-- an entry of the index that is found or not
+pub no_entry : (r : Option ℕ) → not (is_some r) ≡ eqb (found_of r) 0
+no_entry None = refl
+no_entry (Some j) = sym (ne_eqb (suc j) 0 (λ z. omega arith))
 
 not_found : (table : List ℕ) (q : ℕ) → not (found (operation_at table q)) ≡ eqb q 0
 unfolding found operation_at

@@ -7,16 +7,14 @@ use Prim.Native.Nat.{ℕ, zero, suc, ◌+◌, ◌-◌, ◌*◌, ◌%◌, ◌<◌
 use native.Mathlib.Omega.{arith}
 use native.Mathlib.Nat.{div-mul-le_self}
 use lib.Dec.{leb, ltb, eqb}
-use lib.ListN.{length, get_or, take, drop, length-take, length-drop}
-use lib.Seq.{get_or-take, get_or-drop, drop-drop}
+use lib.ListN.{length, get_or, drop}
+use lib.Seq.{drop-drop}
 use Rattle.chars.specs.Limits.{Limits}
 use Rattle.std.specs.Prelude.{if◌then◌else◌}
 use Rattle.chars.proofs.Cases.{both, either}
-use Rattle.table.specs.Table.{field, field_sound, row_sound, rows_of, rows_sound, distinct, operations}
+use Rattle.table.specs.Table.{field, all_below, field_sound, row_sound, rows_of, rows_sound, distinct, operations}
 use Rattle.table.specs.Entered.{sound, row_count, row_place, row_from, operations_of}
-use Rattle.table.proofs.Below.{each_below}
 use Rattle.table.proofs.Fields.{field_parts}
-use Rattle.table.proofs.Rows.{row_field_sound}
 
 -- the rows of a table
 pub rows_length : (n : ℕ) (table : List ℕ) → length (rows_of n table) ≡ n
@@ -83,32 +81,12 @@ module _ (L : Limits) (table : List ℕ) where
         let all = (both (rows_sound rows) (distinct (operations_of table)) passed).0 in
         rw (rows_entry n table i (omega arith)) at (each_sound rows all i (omega arith))
 
-    -- how many items or kinds it has, and each of these
-    entries :
-        (k bound : ℕ) → k + 9 ≤ 274 → field_sound k 8 bound (row_from table (row_place table j)) ≡ true
-        → (get_or table (row_place table j + k) 0 ≤ 8)
-        × ((i : ℕ) → i < get_or table (row_place table j + k) 0 → get_or table (row_place table j + k + 1 + i) 0 < bound)
-    unfolding field
-    entries k bound r t =
-        let p = row_place table j in
-        let n = get_or table (p + k) 0 in
-        let there = row_there in
-        let parts = field_parts (p + k) 8 bound table (sym (row_field_sound table p k 8 bound (omega arith)) ∙ t) in (
-          parts.0,
-          λ i l.
-              rw (get_or-take n (drop (p + k + 1) table) i 0 l, get_or-drop (p + k + 1) table i 0)
-              at (each_below bound (take n (drop (p + k + 1) table)) parts.1 i (simp (length-take, length-drop) (omega arith))),
-        )
-
     -- a sound table's row is there, with at most eight items and at most eight kinds, which are below 16
     pub sound_row :
-        (row_place table j + 274 ≤ length table)
-        × (get_or table (row_place table j + 256) 0 ≤ 8)
-        × (get_or table (row_place table j + 265) 0 ≤ 8)
-        × ((k : ℕ) → k < get_or table (row_place table j + 265) 0 → get_or table (row_place table j + 266 + k) 0 < 16)
+        let row = row_from table (row_place table j) in
+        (row_place table j + 274 ≤ length table) × (get_or row 256 0 ≤ 8) × (get_or row 265 0 ≤ 8) × (all_below 16 (field 265 row) ≡ true)
     sound_row =
-        let p = row_place table j in
-        let parts = row_parts (row_from table p) row_is_sound in
-        let gives = entries 265 16 (omega arith) parts.1 in
-        let e : p + 265 + 1 ≡ p + 266 = omega arith in
-        (row_there, (entries 256 32 (omega arith) parts.0).0, gives.0, λ k l. rw e at (gives.1 k l))
+        let row = row_from table (row_place table j) in
+        let parts = row_parts row row_is_sound in
+        let gives = field_parts 265 8 16 row parts.1 in
+        (row_there, (field_parts 256 8 32 row parts.0).0, gives.0, gives.1)

@@ -3,8 +3,5 @@
 use Rattle.chars.proofs.Only.{one, OneAnswer}
 use Rattle.table.proofs as fn
 
-pub size : OneAnswer fn.size.Kinds.ps fn.size.Kinds.r fn.size.Reads.Post
-size κs given a b x y p q = one p.0 q.0
-
 pub judge : OneAnswer fn.judge.Kinds.ps fn.judge.Kinds.r fn.judge.Reads.Post
 judge κs given a b x y p q = one p.0 q.0

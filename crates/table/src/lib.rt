@@ -3,13 +3,13 @@
 
 #![tactic(auto)]
 
-ghost use Rattle.std.specs.Prelude.{◌≡◌, true, ◌+◌, ◌-◌, ◌<◌, ◌≤◌, ◌^◌, length, take, drop};
+ghost use Rattle.std.specs.Prelude.{◌≡◌, true, ◌+◌, ◌<◌, ◌≤◌, length};
 ghost use Rattle.chars.specs.Limits.{limits};
 ghost use Rattle.names.specs.Index.{Indexed};
 ghost use Rattle.table.specs.Table.{all_below, field_sound, row_sound};
-ghost use Rattle.table.specs.Entered.{sound, row_count, row_place, row_from, newly, Entered};
+ghost use Rattle.table.specs.Entered.{sound, row_count, row_place, newly, Entered};
 
-use names::{enter, find, marked};
+use names::{Index, enter, find, marked};
 use tokens::number::eight;
 
 // Where the parts of an operation stand in its row, and how long a row is.
@@ -22,133 +22,70 @@ pub const GIVES: usize = 265;
 // Operations in a table.
 const OPERATIONS: usize = 256;
 
-// A byte as a size.
-pub fn size(b: u8) -> usize
-    ensures { (result ≡ b) × (result < 256) }
+// Whether every byte is below a bound.
+fn all_below(part: &[u8], bound: u8) -> bool
+    ensures { result ≡ all_below bound part.now }
 {
-    b as usize
+    part.iter().all(|b| *b < bound)
 }
 
-// Whether every byte of a part is below a bound.
-fn all_below(s: &[u8], from: usize, end: usize, bound: u8) -> bool
-    requires { (from ≤ end) × (end ≤ length s.now) }
-    ensures { result ≡ all_below bound (take (end - from) (drop from s.now)) }
+// Whether every byte is 0. No byte ends the loop, so that many are taken at a time.
+fn zeros(part: &[u8]) -> bool
+    ensures { result ≡ all_below 1 part.now }
 {
-    let mut i = from;
-    while i < end {
-        if bound <= s[i] {
-            return false;
-        }
-        i += 1;
-    }
-    true
-}
-
-// Whether every byte of a part is 0, eight at a time; the last eight are looked at from the end.
-fn zeros_by_eight(s: &[u8], from: usize, end: usize) -> bool
-    requires { (from ≤ end) × (end ≤ length s.now) }
-    ensures { result ≡ all_below 1 (take (end - from) (drop from s.now)) }
-{
-    if end - from < 8 {
-        return all_below(s, from, end, 1);
-    }
-    let mut i = from;
-    while 8 < end - i {
-        if eight(s, i) != 0 {
-            return false;
-        }
-        i += 8;
-    }
-    eight(s, end - 8) == 0
-}
-
-// The same, 32 at a time as long as there are so many.
-fn zeros(s: &[u8], from: usize, end: usize) -> bool
-    requires { (from ≤ end) × (end ≤ length s.now) }
-    ensures { result ≡ all_below 1 (take (end - from) (drop from s.now)) }
-{
-    let mut i = from;
-    while 32 <= end - i {
-        if eight(s, i) | eight(s, i + 8) | eight(s, i + 16) | eight(s, i + 24) != 0 {
-            return false;
-        }
-        i += 32;
-    }
-    zeros_by_eight(s, i, end)
-}
-
-// The least number that needs more than `n` bytes.
-fn power(n: usize) -> u64
-    requires { n < 8 }
-    ensures { result ≡ 256 ^ n }
-{
-    match n {
-        0 => 1,
-        1 => 0x100,
-        2 => 0x10000,
-        3 => 0x1000000,
-        4 => 0x100000000,
-        5 => 0x10000000000,
-        6 => 0x1000000000000,
-        _ => 0x100000000000000,
-    }
+    part.iter().fold(0, |seen, b| seen | *b) == 0
 }
 
 // Items or kinds: at most eight, each below a bound, and zeros behind them, where the eight bytes as one number have no more bytes than
 // there are entries.
-fn entries_sound(s: &[u8], at: usize, bound: u8) -> bool
-    requires { at + 9 ≤ length s.now }
-    ensures { result ≡ field_sound at 8 bound s.now }
+fn entries_sound(row: &[u8], at: usize, bound: u8) -> bool
+    requires { at + 9 ≤ length row.now }
+    ensures { result ≡ field_sound at 8 bound row.now }
 {
-    let n = size(s[at]);
+    let n = usize::from(row[at]);
     if 8 < n {
         return false;
     }
-    if n < 8 {
-        if power(n) <= eight(s, at + 1) {
-            return false;
-        }
+    if n < 8 && eight(row, at + 1) >> (8 * n) != 0 {
+        return false;
     }
-    all_below(s, at + 1, at + 1 + n, bound)
+    all_below(&row[at + 1..at + 1 + n], bound)
 }
 
-fn operation_sound(s: &[u8], at: usize) -> bool
-    requires { at + 274 ≤ length s.now }
-    ensures { result ≡ row_sound (row_from s.now at) }
+fn operation_sound(row: &[u8]) -> bool
+    requires { 274 ≤ length row.now }
+    ensures { result ≡ row_sound row.now }
 {
-    let n = size(s[at]);
+    let n = usize::from(row[0]);
     if n == 0 {
         return false;
     }
-    if !entries_sound(s, at + TAKES, 32) {
-        return false;
-    }
-    if !entries_sound(s, at + GIVES, 16) {
-        return false;
-    }
-    zeros(s, at + 1 + n, at + TAKES)
+    entries_sound(row, TAKES, 32) && entries_sound(row, GIVES, 16) && zeros(&row[1 + n..TAKES])
 }
 
 // Whether the row is sound and no row behind it has its name; then its name is entered.
-fn operation_entered(s: &[u8], index: &mut [u32; 1792], at: usize, count: usize) -> bool
-    requires { Entered s.now index.old count × (count < row_count s.now) × (row_count s.now ≤ 256)
-        × (at ≡ row_place s.now count) }
-    ensures { (result ≡ newly s.now count) × (result ≡ true → Entered s.now index.new (count + 1)) }
+fn operation_entered(table: &[u8], index: &mut Index, at: usize, count: usize) -> bool
+    requires { Entered table.now index.old count × (count < row_count table.now) × (row_count table.now ≤ 256)
+        × (at ≡ row_place table.now count) }
+    ensures { (result ≡ newly table.now count) × (result ≡ true → Entered table.now index.new (count + 1)) }
 {
-    if !operation_sound(s, at) {
+    let row = &table[at..at + WIDTH];
+    if !operation_sound(row) {
         return false;
     }
-    let n = size(s[at]);
-    let m = marked(s, at + 1, n);
-    if find(s, index, count, s, at + 1, n, m) != 0 {
+    let n = usize::from(row[0]);
+    let name = &row[1..1 + n];
+    let m = marked(name);
+    if find(table, index, count, name, m).is_some() {
         return false;
     }
     enter(index, count, m, (at + 1) as u32, n as u32);
     true
 }
 
-// Whether a table is sound. Then the index, which had no entry, has its operations' names.
-pub fn judge(table: &[u8], index: &mut [u32; 1792]) -> bool
+// Whether a table is sound. Then the index, which had no entry, has its operations' names; it is lent, for an `Option` of it would be
+// seven kilobytes to hand back.
+pub fn judge(table: &[u8], index: &mut Index) -> bool
     requires { Indexed table.now index.old 0 × (length index.old ≡ 1792) }
     ensures { (result ≡ sound limits table.now)
         × (result ≡ true → Entered table.now index.new (row_count table.now)) }
@@ -160,12 +97,10 @@ pub fn judge(table: &[u8], index: &mut [u32; 1792]) -> bool
     if OPERATIONS < n {
         return false;
     }
-    let mut k = 0;
-    while k < n {
+    for k in 0..n {
         if !operation_entered(table, index, (n - 1 - k) * WIDTH, k) {
             return false;
         }
-        k += 1;
     }
     true
 }

@@ -9,8 +9,8 @@ use borrow.Author.Tests.{ne_eqb}
 use Rattle.chars.specs.Stream.{Stream, next, stop, stream_at}
 use Rattle.chars.proofs.Cases.{either}
 use Rattle.chars.specs.Character.{character_at}
-use Rattle.chars.specs.declared.Character.{Character}
-use Rattle.chars.specs.declared.Character.TheVariants.{Clean, Refused, End}
+use Rattle.chars.specs.Character.{Character}
+use Rattle.chars.specs.Character.{Clean, Refused, End}
 use Rattle.chars.proofs.Refusals.{character_refused}
 use Rattle.chars.proofs.Streams.{at_end, at_character, at_refusal, ended}
 use Rattle.tokens.specs.Sorts.{white}

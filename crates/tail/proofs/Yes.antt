@@ -13,8 +13,8 @@ use borrow.Author.Tests.{eqb-true, eqb-false, ltb-true, ltb-false, le-ltb, eq-eq
 use Rattle.chars.specs.Limits.{Limits}
 use Rattle.chars.specs.Character.{carriage, character, character_at}
 use Rattle.chars.specs.Stream.{stream_at}
-use Rattle.chars.specs.declared.Character.{Character}
-use Rattle.chars.specs.declared.Character.TheVariants.{Clean, Refused, End}
+use Rattle.chars.specs.Character.{Character}
+use Rattle.chars.specs.Character.{Clean, Refused, End}
 use Rattle.chars.proofs.Cases.{either, by_test}
 use Rattle.chars.proofs.Characters.{refused}
 use Rattle.chars.proofs.Refusals.{character_refused}

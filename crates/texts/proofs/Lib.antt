@@ -1,5 +1,5 @@
 mod Filling
 mod OneEntity
-mod Worded
+pub mod Worded
 mod Roomed
 pub mod Unique

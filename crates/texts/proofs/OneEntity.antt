@@ -13,12 +13,12 @@ use Rattle.std.specs.Prelude.{if◌then◌else◌}
 use Rattle.chars.specs.Choice.{within}
 use Rattle.chars.proofs.Cases.{either}
 use Rattle.tokens.proofs.Clean.{clean_zero}
-use Rattle.entities.specs.Entity.{Entity, size, sizes}
+use Rattle.entities.specs.Entity.{Entity, kind_number, size, sizes}
 use Rattle.entities.specs.Making.{Handled, fitted, makes, shortage}
 use Rattle.entities.specs.Judging.{one, bares, cut, cut_of, cut_length, cut_from, kind_of, short_of, filled, written, text_written}
 use Rattle.entities.specs.Stepping.{Contents, Ready, open_groups, room_left, reader_of, agrees, Goes, Stops}
 use Rattle.entities.specs.declared.state.State.{State}
-use Rattle.entities.proofs.Listing.{number_of_kind, written_one, sizes_append}
+use Rattle.entities.proofs.Listing.{written_one, sizes_append}
 use Rattle.entities.proofs.OpenGroups.{higher}
 use Rattle.entities.proofs.Cutting.{cut_clean, cut_long, cut_raw, bare_first, bare_text, bare_sizes}
 use Rattle.entities.proofs.Shortages.{one_counts, bare_counts, bare_one}
@@ -112,7 +112,7 @@ module _ (draft list text groups : List ℕ) (s : State) (lead kind place prefix
 
       module _ (free : prefix - r + bytes ≤ length text - s.text) where
         pub held_one :
-            prefix ≤ 4096 → bytes ≤ 4096 → 1 ≤ kind → kind ≤ 17 → (list₁ list' text₁ text' : List ℕ) (held : ℕ)
+            prefix ≤ 4096 → bytes ≤ 4096 → kind_number (kind_of kind) ≡ kind → (list₁ list' text₁ text' : List ℕ) (held : ℕ)
             → held ≡ s.entities + length (bares lead place) → list₁ ≡ written list s.entities s.text (bares lead place)
             → list' ≡ take (held * 6) list₁ ++ ((kind ∷ place ∷ s.text ∷ (prefix - r) ∷ bytes ∷ 0 ∷ []) ++ drop (held * 6 + 6) list₁)
             → text₁ ≡ take s.text text ++ (take (prefix - r) (drop (place + r) draft) ++ drop (s.text + (prefix - r)) text)
@@ -123,8 +123,7 @@ module _ (draft list text groups : List ℕ) (s : State) (lead kind place prefix
             (Goes (record { mode = s.mode; depth = s.depth; entities = held + 1; text = s.text + (prefix - r) + bytes })) s
             list text list' text' groups place
         unfolding filled reader_of
-        held_one short_text short-data some kinds list₁ list' text₁ text' held h l₁ l t₁ t =
-            let number = number_of_kind kind some kinds in
+        held_one short_text short-data number list₁ list' text₁ text' held h l₁ l t₁ t =
             let numbers :
             (kind ∷ place ∷ s.text ∷ (prefix - r) ∷ bytes ∷ 0 ∷ [])
             ≡ (kind ∷ place ∷ s.text ∷ length (clean (prefix - r) (stream_at draft (place + r)))

@@ -8,7 +8,7 @@ use Prim.Native.Nat.{ℕ, ◌-◌, ◌<◌, ◌≤◌, ◌/◌}
 use native.Mathlib.Omega.{arith}
 use lib.Dec.{eqb, leb}
 use lib.ListN.{length, get_or}
-use borrow.Author.Tests.{ne_eqb, eqb-true, eqb-false, lt-ltb, not-true}
+use borrow.Author.Tests.{eqb-true, eqb-false, lt-ltb, not-true}
 use Rattle.std.specs.Prelude.{if◌then◌else◌}
 use Rattle.chars.specs.Choice.{within, among, ascii}
 use Rattle.chars.specs.Limits.{limits}
@@ -17,6 +17,9 @@ use Rattle.chars.specs.Stream.{stream_at, clean}
 use Rattle.tokens.proofs.Clean.{clean_zero}
 use Rattle.tokens.specs.Sorts.{visible, white, atomic, inclusive}
 use Rattle.tokens.specs.Tokens.{quoted, curly}
+use Rattle.tokens.specs.declared.Sort.{Sort}
+use Rattle.tokens.specs.declared.Sort.TheVariants.{Simple, Quoted, Curly}
+use Rattle.scan.specs.Told.{sort_code}
 use Rattle.runs.specs.Bytes.{begins_of}
 use Rattle.entities.specs.Entity.{Entity}
 use Rattle.entities.specs.Making.{Reader, Handled, makes, fitted, handled, within_groups, shortage}
@@ -24,8 +27,10 @@ use Rattle.entities.specs.Making.{adds, named, word, regular, command, string_ki
 use Rattle.entities.specs.Judging.{bares, cut, cut_of, kind_of, word_kind, text_kind}
 use Rattle.entities.specs.Stepping.{Contents, open_groups, room_left, reader_of, agrees, Took}
 use Rattle.entities.specs.Stepping.{Stops, judged_as, closing_as, structural, worded}
-use Rattle.entities.specs.Stepping.{entered_by, entered_groups, lead_of}
+use Rattle.entities.specs.Stepping.{entered_by, entered_groups, lead_of, bracketed, commanded}
 use Rattle.entities.specs.declared.state.State.{State}
+use Rattle.entities.specs.declared.state.Mode.{Mode}
+use Rattle.entities.specs.declared.state.Mode.TheVariants.{Regular, Bracket, Metacommand}
 use Rattle.entities.proofs.OpenGroups.{so_many}
 use Rattle.entities.proofs.Cutting.{first_byte}
 use Rattle.entities.proofs.Entering.{same_held, too_many, entities_entered, text_entered}
@@ -96,10 +101,16 @@ command_is c q place T e w =
 -- no group brought
 reader_same :
     (b : Bool) (s : State) (pushed gs : List ℕ) → b ≡ false → open_groups pushed (entered_by b s).depth ≡ entered_groups b gs
-    → reader_of (entered_by b s) pushed ≡ record { metacommand = eqb s.mode 2; opened = eqb s.mode 1; groups = gs }
+    → reader_of (entered_by b s) pushed ≡ record { metacommand = commanded s.mode; opened = bracketed s.mode; groups = gs }
 unfolding reader_of entered_by entered_groups
 reader_same true s pushed gs e so = absurd (true≢false e)
 reader_same false s pushed gs e so = rw so
+
+-- a mode is one of both at most
+bracketed_only : (m : Mode) → bracketed m ≡ true → commanded m ≡ false
+bracketed_only Regular t = refl
+bracketed_only Bracket t = refl
+bracketed_only Metacommand t = absurd (true≢false (sym t))
 
 module _ (sort c : ℕ) (fine : sort ≤ 2) (place : ℕ) (T S : List ℕ) (first : sort ≡ 0 → get_or T 0 0 ≡ c) (none : sort ≡ 0 → S ≡ []) where
   simple_is :
@@ -144,18 +155,18 @@ module _ (sort c : ℕ) (fine : sort ≤ 2) (place : ℕ) (T S : List ℕ) (firs
   not_closing w =
       either (eqb sort 0) (λ t. rw (t, first (eqb-true sort 0 t)) (other c 0x5D (w (eqb-true sort 0 t)) refl)) (λ t. rw t)
 
-  module _ (s : State) (list text groups : List ℕ) (own : sort ≡ 0 → worded (eqb s.mode 2) c ≡ true) where
+  module _ (s : State) (list text groups : List ℕ) (own : sort ≡ 0 → worded (commanded s.mode) c ≡ true) where
     abbrev gs : List ℕ
     gs = open_groups groups s.depth
 
     abbrev brings : Bool
-    brings = eqb s.mode 1
+    brings = bracketed s.mode
 
     abbrev comes : Handled
     comes = handled limits (room_left s list text) (reader_of s groups) (closing_as sort T) place (λ q. judged_as sort q place T S)
 
-    regularly : brings ≡ true → eqb s.mode 2 ≡ false
-    regularly t = ne_eqb s.mode 2 (λ e. omega (arith, eqb-true s.mode 1 t))
+    regularly : brings ≡ true → commanded s.mode ≡ false
+    regularly t = bracketed_only s.mode t
 
     still_own : brings ≡ true → sort ≡ 0 → worded false c ≡ true
     still_own t z = rw (regularly t) at (own z)
@@ -182,18 +193,19 @@ module _ (sort c : ℕ) (fine : sort ≤ 2) (place : ℕ) (T S : List ℕ) (firs
       judged-in :
           brings ≡ true
           → judged_as sort (within_groups (1 ∷ gs)) place T S
-          ≡ makes (entity sort c (eqb s.mode 2) place T S ∷ []) (within_groups (1 ∷ gs))
+          ≡ makes (entity sort c (commanded s.mode) place T S ∷ []) (within_groups (1 ∷ gs))
       unfolding within_groups
       judged-in t = judged_is (within_groups (1 ∷ gs)) (still_own t) ∙ rw (regularly t)
 
-      judged-out : judged_as sort (reader_of s groups) place T S ≡ makes (entity sort c (eqb s.mode 2) place T S ∷ []) (reader_of s groups)
+      judged-out :
+          judged_as sort (reader_of s groups) place T S ≡ makes (entity sort c (commanded s.mode) place T S ∷ []) (reader_of s groups)
       unfolding reader_of
       judged-out = judged_is (reader_of s groups) own
 
       comes_is :
           comes
           ≡ fitted (room_left s list text) (bares (lead_of brings) place)
-          (makes (entity sort c (eqb s.mode 2) place T S ∷ []) (reader_of (entered_by brings s) pushed))
+          (makes (entity sort c (commanded s.mode) place T S ∷ []) (reader_of (entered_by brings s) pushed))
       unfolding handled reader_of bares kind_of room_left fitted shortage lead_of
       comes_is =
           either brings
@@ -218,7 +230,7 @@ module _ (sort c : ℕ) (fine : sort ≤ 2) (place : ℕ) (T S : List ℕ) (firs
           (r : Took) (list' text' groups' : List ℕ)
           → agrees
           (fitted (room_left (entered_by brings s) list text) (bares (lead_of brings) place)
-          (makes (entity sort c (eqb s.mode 2) place T S ∷ []) (reader_of (entered_by brings s) pushed))) r
+          (makes (entity sort c (commanded s.mode) place T S ∷ []) (reader_of (entered_by brings s) pushed))) r
           (entered_by brings s) list text
           list' text' groups' place
           → agrees comes r s list text list' text' groups' place
@@ -226,6 +238,12 @@ module _ (sort c : ℕ) (fine : sort ≤ 2) (place : ℕ) (T S : List ℕ) (firs
           rw comes_is
           (same_held s (entered_by brings s) (entities_entered brings s list text groups place)
           (text_entered brings s list text groups place) _ list text place r list' text' groups' (rw same-room at a))
+
+-- there are three sorts
+pub few : (sort : Sort) → sort_code sort ≤ 2
+few Simple = omega arith
+few Quoted = omega arith
+few Curly = omega arith
 
 -- a kind whose text loses a byte is a word's, which has one
 pub cut_some :

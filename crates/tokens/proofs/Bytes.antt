@@ -1,37 +1,36 @@
--- Numbers made of a draft's bytes, the first of them lowest: a number of some bytes and one of the next, each as high as its place, are one
--- number of all of them. Assumes nothing.
-use mathlib.Core.Path.{◌≡◌, ◌∙◌, ap}
-use mathlib.Core.List.{List, ◌++◌}
-use Prim.Native.Nat.{ℕ, zero, suc, ◌+◌, ◌*◌, ◌/◌, ◌%◌, ◌^◌, ◌<◌}
+-- Numbers made of a draft's bytes, the first of them lowest: the definition's bytes of a number are the library's. Assumes nothing.
+use mathlib.Core.Path.{◌≡◌, refl, sym, ◌∙◌, ap}
+use mathlib.Core.List.{List}
+use Prim.Native.Nat.{ℕ, zero, suc, ◌+◌, ◌/◌, ◌%◌, ◌^◌, ◌<◌}
+use lib.ListN.{get_or, take, drop, length-take}
+use lib.Seq.{get_or-take, get_or-drop}
+use Rattle.std.proofs.lemmas.List.{get_or_past}
+use Rattle.chars.proofs.Cases.{by_bound}
 use native.Mathlib.Omega.{arith}
-use native.Mathlib.Nat.{mod-lt, mod-eq_of_lt, div-add-mod', pow-suc, zero-add, suc-add}
-use lib.Arith.{lt-one, digits_div, digits_mod}
-use lib.ListN.{length, get_or, take, drop}
-use lib.Seq.{drop-cons, take-add, drop-drop}
+use native.Mathlib.Nat.{pow-suc, div-one, div-div-eq-div-mul}
+use Rattle.std.specs.Int.{byte_at, bytes_low_first}
 use Rattle.tokens.specs.Runs.{bytes_of}
 
--- the bytes of two numbers, the second as high as the first has bytes
-both_bytes : (m n x y : ℕ) → x < 256 ^ m → bytes_of (m + n) (x + y * 256 ^ m) ≡ bytes_of m x ++ bytes_of n y
+byte_is : (i n : ℕ) → byte_at i n ≡ n / 256 ^ i % 256
+byte_is zero n = ap (λ k. k % 256) (sym (div-one n))
+byte_is (suc i) n = refl
+
+from_byte : (k i n : ℕ) → bytes_of k (n / 256 ^ i) ≡ bytes_low_first i k n
 unfolding bytes_of
-both_bytes zero n x y h =
-    let none = lt-one h in
-    let same : x + y * 1 ≡ y = omega arith in
-    rw (zero-add n, same)
-both_bytes (suc m) n x y h =
-    let l = rw (pow-suc 256 m) at h in
-    let q = x / 256 + y * 256 ^ m in
-    let split : x + y * 256 ^ suc m ≡ q * 256 + x % 256 = omega (arith, ap (λ k. y * k) (pow-suc 256 m), div-add-mod' x 256) in
-    let low : x % 256 < 256 = mod-lt x (omega arith) in
-    rw (suc-add m n, split, digits_mod q low, digits_div q low, both_bytes m n (x / 256) y (omega arith))
+from_byte zero i n = refl
+from_byte (suc k) i n =
+    let next : n / 256 ^ i / 256 ≡ n / 256 ^ suc i = div-div-eq-div-mul n (256 ^ i) 256 ∙ ap (λ k. n / k) (sym (pow-suc 256 i)) in
+    rw (byte_is i n, next, from_byte k (suc i) n)
 
-module _ (draft : List ℕ) (at : ℕ) where
-  pub one_byte : (b : ℕ) → b ≡ get_or draft at 0 → b < 256 → at < length draft → bytes_of 1 b ≡ take 1 (drop at draft)
-  unfolding bytes_of
-  one_byte b e l h = rw (drop-cons draft at 0 h, ← e, mod-eq_of_lt l)
+pub same_bytes : (k n : ℕ) → bytes_of k n ≡ bytes_low_first 0 k n
+same_bytes k n = ap (bytes_of k) (sym (div-one n)) ∙ from_byte k 0 n
 
-  -- a number of `m` bytes of a draft, and behind it one of the next `n`
-  pub next_bytes :
-      (m n x y : ℕ) → x < 256 ^ m → bytes_of m x ≡ take m (drop at draft) → bytes_of n y ≡ take n (drop (at + m) draft)
-      → bytes_of (m + n) (x + y * 256 ^ m) ≡ take (m + n) (drop at draft)
-  next_bytes m n x y h e f =
-      both_bytes m n x y h ∙ rw (e, f, take-add m n (drop at draft), drop-drop m at draft)
+-- a part of a draft is bytes too
+pub part_small :
+    (draft part : List ℕ) (at n : ℕ) → part ≡ take n (drop at draft) → ((i : ℕ) → get_or draft i 0 < 256)
+    → (i : ℕ) → get_or part i 0 < 256
+part_small draft part at n e small i =
+    rw e
+    (by_bound i n
+    (λ l. rw (get_or-take n (drop at draft) i 0 l, get_or-drop at draft i 0) (small (at + i)))
+    (λ g. rw (get_or_past (take n (drop at draft)) i 0 (simp length-take (omega arith))) (omega arith)))

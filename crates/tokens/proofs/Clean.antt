@@ -7,7 +7,7 @@ use lib.ListN.{length}
 use borrow.Author.Tests.{le-leb, lt-leb}
 use Rattle.chars.specs.Character.{character_at, encoded}
 use Rattle.chars.specs.Stream.{Stream, next, stop, stream_at, clean}
-use Rattle.chars.specs.declared.Character.TheVariants.{Clean}
+use Rattle.chars.specs.Character.{Clean}
 use Rattle.chars.proofs.Extent.{encoded_size}
 use Rattle.chars.proofs.Streams.{at_character, at_none}
 

@@ -10,11 +10,11 @@ use borrow.Author.Tests.{ne_eqb}
 use Rattle.chars.specs.Limits.{Limits}
 use Rattle.chars.specs.Character.{character_at}
 use Rattle.chars.specs.Stream.{stream_at}
-use Rattle.chars.specs.declared.Character.TheVariants.{Clean}
+use Rattle.chars.specs.Character.{Clean}
 use Rattle.chars.proofs.Extent.{encoded_one}
 use Rattle.tokens.specs.Sorts.{exclusive, legal}
 use Rattle.tokens.specs.Tokens.{between, word, string, Tokens, Opened, closed, down, tokens, first, shown}
-use Rattle.tokens.specs.declared.Token.TheVariants.{Simple, Refused}
+use Rattle.tokens.specs.Tokens.{Simple, Refused}
 use Rattle.tokens.proofs.Passing.{class_at, stepwise}
 use Rattle.tokens.proofs.Classes.{low, plain, ordinary}
 use Rattle.tokens.proofs.Skipping.{alone_at}

@@ -15,4 +15,5 @@ pub mod Lengths
 pub mod Refused
 pub mod Spans
 pub mod Agreed
+pub mod Told
 pub mod Unique

@@ -103,3 +103,5 @@ module _ (low high : ℕ) (draft : List ℕ) where
   pub finished : (i end : ℕ) → end ≤ i → i ≡ i + run low high (end - i) (drop i draft)
   unfolding run
   finished i end h = let none : end - i ≡ 0 = omega arith in rw (none, add-zero)
+
+pub ruleset running = (onward, halted_below, halted_above, finished)

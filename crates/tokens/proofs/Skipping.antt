@@ -13,8 +13,8 @@ use borrow.Author.Tests.{eq-eqb, ne_eqb, ltb-true, ltb-false, leb-true, leb-fals
 use Rattle.chars.specs.Choice.{within}
 use Rattle.chars.specs.Character.{character_at}
 use Rattle.chars.specs.Stream.{Stream, next, stop, stream_at}
-use Rattle.chars.specs.declared.Character.{Character}
-use Rattle.chars.specs.declared.Character.TheVariants.{Clean, Refused, End}
+use Rattle.chars.specs.Character.{Character}
+use Rattle.chars.specs.Character.{Clean, Refused, End}
 use Rattle.chars.proofs.Cases.{either}
 use Rattle.chars.proofs.Characters.{character_is, outside}
 use Rattle.chars.proofs.Streams.{at_end, at_character, at_none, plain}

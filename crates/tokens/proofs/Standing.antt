@@ -11,7 +11,7 @@ use borrow.Author.Tests.{lt-leb}
 use Rattle.chars.specs.Choice.{within}
 use Rattle.chars.specs.Character.{character, character_at, encoded}
 use Rattle.chars.specs.Rfc3629.{utf8_char}
-use Rattle.chars.specs.declared.Character.TheVariants.{Clean}
+use Rattle.chars.specs.Character.{Clean}
 use Rattle.chars.proofs.Cases.{by_bound}
 use Rattle.chars.proofs.Extent.{encoded_one}
 use Rattle.chars.proofs.Grammar.{numbered}

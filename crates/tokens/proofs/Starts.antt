@@ -10,14 +10,14 @@ use borrow.Author.Tests.{eq-eqb, ne_eqb}
 use Rattle.chars.specs.Limits.{Limits}
 use Rattle.chars.specs.Character.{character_at}
 use Rattle.chars.specs.Stream.{Stream, next, stop, stream_at}
-use Rattle.chars.specs.declared.Character.TheVariants.{Clean}
+use Rattle.chars.specs.Character.{Clean}
 use Rattle.chars.proofs.Cases.{either}
 use Rattle.chars.proofs.Streams.{at_character}
 use Rattle.tokens.specs.Sorts.{visible, white, atomic, inclusive}
 use Rattle.tokens.specs.Tokens.{State, between, comment, bar, word, opens, begins, simply, step, follows, tokens}
 use Rattle.tokens.specs.Tokens.{first, shown}
 use Rattle.tokens.specs.Runs.{past_all}
-use Rattle.tokens.specs.declared.Token.TheVariants.{Simple, Last, Refused}
+use Rattle.tokens.specs.Tokens.{Simple, Last, Refused}
 use Rattle.tokens.proofs.Skipping.{by_character, count}
 
 -- the state inside a comment or outside

@@ -12,14 +12,14 @@ use Rattle.std.specs.Prelude.{if◌then◌else◌}
 use Rattle.chars.specs.Limits.{Limits}
 use Rattle.chars.specs.Character.{character_at, encoded}
 use Rattle.chars.specs.Stream.{stream_at}
-use Rattle.chars.specs.declared.Character.TheVariants.{Clean}
+use Rattle.chars.specs.Character.{Clean}
 use Rattle.chars.proofs.Cases.{either}
 use Rattle.chars.proofs.Extent.{encoded_one}
 use Rattle.chars.proofs.Streams.{at_character, at_none}
 use Rattle.tokens.specs.Tokens.{Sort, simple, quoted, curly, Opened, State, string, up, down, nested, inside, closed, step}
 use Rattle.tokens.specs.Tokens.{follows, tokens, first, shown}
 use Rattle.tokens.specs.Runs.{refusal_of}
-use Rattle.tokens.specs.declared.Token.TheVariants.{Refused}
+use Rattle.tokens.specs.Tokens.{Refused}
 use Rattle.tokens.proofs.Passing.{class_at}
 use Rattle.tokens.proofs.Classes.{low, Ordinary, ordinary}
 use Rattle.tokens.proofs.Skipping.{next_at}

@@ -12,17 +12,18 @@ use borrow.Fn.Kinds.{Dens, ended_of}
 use denote.Triple.Clauses.{AtExit}
 use Rattle.chars.specs.Character.{character_at}
 use Rattle.chars.specs.Stream.{Stream, next, stop, stream_at}
-use Rattle.chars.specs.declared.Character.{Character}
-use Rattle.chars.specs.declared.Character.TheVariants.{Clean, Refused, End}
+use Rattle.chars.specs.Character.{Character}
+use Rattle.chars.specs.Character.{Clean, Refused, End}
 use Rattle.chars.proofs.Cases.{by_bound}
 use Rattle.chars.proofs.Only.{one, OneAnswer}
 use Rattle.chars.proofs.Refusals.{character_refused}
 use Rattle.chars.proofs.Streams.{at_end, at_character, at_refusal, ended}
 use Rattle.tokens.specs.Runs.{bytes_of}
+use Rattle.tokens.proofs.Told.{same_told}
 use Rattle.tokens.proofs as fn
 
 pub token_at_lem : OneAnswer fn.token_at.Kinds.ps fn.token_at.Kinds.r fn.token_at.Reads.Post
-token_at_lem κs given a b x y = one
+token_at_lem κs given a b x y p q = same_told a b (one p.0 q.0) p.1 q.1
 
 -- where a stream's first character stands, or its end
 unfoldable stands_at : Stream → ℕ

@@ -13,13 +13,13 @@ use Rattle.chars.proofs.Characters.{outside}
 use Rattle.chars.specs.Limits.{Limits, limits}
 use Rattle.chars.specs.Character.{character_at}
 use Rattle.chars.specs.Stream.{stream_at}
-use Rattle.chars.specs.declared.Character.TheVariants.{Clean}
+use Rattle.chars.specs.Character.{Clean}
 use Rattle.chars.proofs.Streams.{at_end, at_character}
 use Rattle.tokens.specs.Sorts.{exclusive, inclusive, legal}
 use Rattle.tokens.specs.Tokens.{State, word, Tokens, opens, continues, simply, step, follows, tokens, first}
 use Rattle.tokens.specs.Tokens.{shown}
 use Rattle.tokens.specs.Runs.{run}
-use Rattle.tokens.specs.declared.Token.TheVariants.{Simple, Refused}
+use Rattle.tokens.specs.Tokens.{Simple, Refused}
 use Rattle.tokens.proofs.Passing.{class_at, carried, most, ends}
 use Rattle.tokens.proofs.Classes.{plain}
 use Rattle.tokens.proofs.Skipping.{next_at}

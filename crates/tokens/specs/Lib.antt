@@ -3,3 +3,4 @@ pub mod Tokens
 pub mod Runs
 pub mod Step
 pub mod Tail
+pub mod Told

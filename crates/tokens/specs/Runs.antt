@@ -4,10 +4,10 @@ use Rattle.chars.specs.Choice.{within}
 use Rattle.chars.specs.Character.{told}
 use Rattle.chars.specs.Rfc3629.{utf8_char}
 use Rattle.chars.specs.Stream.{Stream, next, stop}
-use Rattle.chars.specs.declared.Character.{Character}
+use Rattle.chars.specs.Character.{Character}
 use Rattle.tokens.specs.Tokens.{Sort, quoted, curly, Opened}
-use Rattle.tokens.specs.declared.Token.{Token}
-use Rattle.tokens.specs.declared.Token.TheVariants.{Refused}
+use Rattle.tokens.specs.Tokens.{Token}
+use Rattle.tokens.specs.Tokens.{Refused}
 use Rattle.tokens.specs.Sorts.{visible, white, atomic, exclusive, inclusive, legal}
 
 -- The class of a byte, numbered so that each loop passes over the bytes of a range of classes.

@@ -3,8 +3,8 @@ use Rattle.std.specs.Prelude.{ℕ, zero, suc, List, ltb, length, if◌then◌els
 use Rattle.chars.specs.Limits.{Limits}
 use Rattle.chars.specs.Stream.{start}
 use Rattle.tokens.specs.Tokens.{token_at}
-use Rattle.tokens.specs.declared.Token.{Token}
-use Rattle.tokens.specs.declared.Token.TheVariants.{Simple, Quoted, Curly, Last, Refused}
+use Rattle.tokens.specs.Tokens.{Token}
+use Rattle.tokens.specs.Tokens.{Simple, Quoted, Curly, Last, Refused}
 
 -- where the next token is looked for: at the draft's start a byte order mark is lost
 unfoldable pub reached : (draft : List ℕ) → (place : ℕ) → ℕ

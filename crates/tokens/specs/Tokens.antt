@@ -4,8 +4,20 @@ use Rattle.chars.specs.Limits.{Limits}
 use Rattle.chars.specs.Character.{encoded}
 use Rattle.chars.specs.Stream.{Stream, next, stop, stream_at}
 use Rattle.tokens.specs.Sorts.{visible, white, atomic, exclusive, inclusive, legal}
-use Rattle.tokens.specs.declared.Token.{Token}
-use Rattle.tokens.specs.declared.Token.TheVariants.{Simple, Quoted, Curly, Last, Refused}
+
+-- What the characters from a place of a draft on come to first. A place is a token's first byte.
+pub data Token : Type 0 where
+  -- a simple token: the byte after it, and how many bytes it has
+  Simple : (place after length : ℕ) → Token
+  -- a quoted string: the byte after its closing quote, the bytes of its prefix, its data's first byte in the draft, and how many bytes
+  -- the clean data has
+  Quoted : (place after prefix from length : ℕ) → Token
+  -- a curly string, likewise
+  Curly : (place after prefix from length : ℕ) → Token
+  -- the last token, `|;`
+  Last : (place after : ℕ) → Token
+  -- a refusal of 2 to 9, with its place; of step also 1
+  Refused : (number place : ℕ) → Token
 
 pub data Sort : Type 0 where
   simple quoted curly : Sort

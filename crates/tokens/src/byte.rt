@@ -1,16 +1,77 @@
 // The class of a byte, and runs of bytes of one range of classes: what the loops over blanks and words share.
 ghost use Rattle.std.specs.Prelude.{◌≡◌, ◌+◌, ◌-◌, ◌<◌, ◌≤◌, min, length, get_or, drop};
 ghost use Rattle.tokens.specs.Runs.{class_of, run as run_of};
+ghost use Rattle.tokens.specs.Told.{class_code};
+
+// The classes of bytes, under their numbers in specs/Runs.antt, `class_of`: each loop passes over the bytes of a range of classes.
+#[derive(Clone, Copy, Debug, PartialEq, Eq)]
+pub enum Class {
+    // Nul, CR and all that is not US-ASCII: cleaning decides.
+    Foreign = 0,
+    // It ends a curly string, and is an atomic character.
+    RightCurly = 1,
+    // `"` and `{`.
+    Opening = 2,
+    Backslash = 3,
+    // Any other visible character that ends no token.
+    Plain = 4,
+    // Illegal outside comments and strings.
+    Illegal = 5,
+    // `#`.
+    Comment = 6,
+    Atomic = 7,
+    // HT and SP.
+    Blank = 8,
+    Line = 9,
+}
+
+impl Class {
+    // Its number, for `run`, which goes by ranges of them. The derived order has no contract to show that by.
+    fn code(self) -> u8
+        ensures { result ≡ class_code self }
+    {
+        self as u8
+    }
+
+    // The class of a byte. What a draft is mostly made of is told by a few comparisons; each way out calls `rare` by itself, so that it
+    // stays a call and the comparisons go into the loops.
+    fn of(b: u8) -> Class
+        ensures { class_code result ≡ class_of b }
+    {
+        if 0x5D < b {
+            if b < 0x7B {
+                return Class::Plain;
+            }
+            return rare(b);
+        }
+        if 0x3B < b {
+            if b < 0x5B {
+                return Class::Plain;
+            }
+            return rare(b);
+        }
+        if 0x2C < b {
+            if b < 0x3B {
+                return Class::Plain;
+            }
+            return rare(b);
+        }
+        if b == 0x20 {
+            return Class::Blank;
+        }
+        rare(b)
+    }
+}
 
 // The class of any byte (specs/Runs.antt, class_of); `_` is nul, CR and all that is not US-ASCII. No arm lists two neighbours, since only
 // then the compiler makes one table of all the arms, and reads it where it lies.
-fn rare(b: u8) -> u8
-    ensures { result ≡ class_of b }
+fn rare(b: u8) -> Class
+    ensures { class_code result ≡ class_of b }
 {
     match b {
-        0x7D => 1,
-        0x22 | 0x7B => 2,
-        0x5C => 3,
+        0x7D => Class::RightCurly,
+        0x22 | 0x7B => Class::Opening,
+        0x5C => Class::Backslash,
         0x24
         | 0x26
         | 0x2A
@@ -53,7 +114,7 @@ fn rare(b: u8) -> u8
         | 0x78
         | 0x7A
         | 0x7C
-        | 0x7E => 4,
+        | 0x7E => Class::Plain,
         0x21
         | 0x27
         | 0x2B
@@ -92,7 +153,7 @@ fn rare(b: u8) -> u8
         | 0x73
         | 0x75
         | 0x77
-        | 0x79 => 4,
+        | 0x79 => Class::Plain,
         0x02
         | 0x04
         | 0x06
@@ -106,7 +167,7 @@ fn rare(b: u8) -> u8
         | 0x18
         | 0x1A
         | 0x1C
-        | 0x1E => 5,
+        | 0x1E => Class::Illegal,
         0x01
         | 0x03
         | 0x05
@@ -121,79 +182,35 @@ fn rare(b: u8) -> u8
         | 0x1B
         | 0x1D
         | 0x1F
-        | 0x7F => 5,
-        0x23 => 6,
-        0x28 | 0x2C => 7,
-        0x25 | 0x29 | 0x3B | 0x5B | 0x5D => 7,
-        0x09 | 0x20 => 8,
-        0x0A => 9,
-        _ => 0,
+        | 0x7F => Class::Illegal,
+        0x23 => Class::Comment,
+        0x28 | 0x2C => Class::Atomic,
+        0x25 | 0x29 | 0x3B | 0x5B | 0x5D => Class::Atomic,
+        0x09 | 0x20 => Class::Blank,
+        0x0A => Class::Line,
+        _ => Class::Foreign,
     }
-}
-
-// The class of a byte. What a draft is mostly made of is told by a few comparisons; each way out calls `rare` by itself, so that it stays a
-// call and the comparisons go into the loops.
-fn class(b: u8) -> u8
-    ensures { result ≡ class_of b }
-{
-    if 0x5D < b {
-        if b < 0x7B {
-            return 4;
-        }
-        return rare(b);
-    }
-    if 0x3B < b {
-        if b < 0x5B {
-            return 4;
-        }
-        return rare(b);
-    }
-    if 0x2C < b {
-        if b < 0x3B {
-            return 4;
-        }
-        return rare(b);
-    }
-    if b == 0x20 {
-        return 8;
-    }
-    rare(b)
 }
 
 // The class of a draft's byte.
-pub fn class_at(draft: &[u8], i: usize) -> u8
+pub fn class_at(draft: &[u8], i: usize) -> Class
     requires { i < length draft.now }
-    ensures { result ≡ class_of (get_or draft.now i 0) }
+    ensures { class_code result ≡ class_of (get_or draft.now i 0) }
 {
-    class(draft[i])
+    Class::of(draft[i])
 }
 
 // From `at` on, where bytes whose class is from `low` to `high` end, at `end` at the latest.
-pub fn run(draft: &[u8], at: usize, end: usize, low: u8, high: u8) -> usize
+#[tactic(auto, using(crate::proofs::Passing::running))]
+pub fn run(draft: &[u8], at: usize, end: usize, low: Class, high: Class) -> usize
     requires { (at ≤ end) × (end ≤ length draft.now) }
-    ensures { result ≡ at + run_of low high (end - at) (drop at draft.now) }
+    ensures { result ≡ at + run_of (class_code low) (class_code high) (end - at) (drop at draft.now) }
 {
-    let mut i = at;
-    while i < end {
-        let k = class_at(draft, i);
-        if k < low {
+    for i in at..end {
+        let k = class_at(draft, i).code();
+        if k < low.code() || high.code() < k {
             return i;
         }
-        if high < k {
-            return i;
-        }
-        i += 1;
     }
-    i
-}
-
-// The lesser of `end` and the place `n` bytes behind `at`.
-pub fn until(end: usize, at: usize, n: usize) -> usize
-    requires { at ≤ end }
-    ensures { result ≡ min end (at + n) }
-{
-    if end - at < n {
-        return end;
-    }
-    at + n
+    end
 }

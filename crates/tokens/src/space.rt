@@ -3,8 +3,9 @@ ghost use Rattle.std.specs.Prelude.{◌≡◌, false, ◌≤◌, length};
 ghost use Rattle.chars.specs.Stream.{stream_at};
 ghost use Rattle.tokens.specs.Runs.{past_blanks, past_comment, past_all};
 
-use crate::byte::run;
-use chars::Character;
+use crate::byte::{Class, run};
+use crate::clean_at;
+use chars::Clean;
 
 // The first place from `at` on that is not whitespace.
 pub fn blanks(draft: &[u8], at: usize) -> usize
@@ -12,15 +13,15 @@ pub fn blanks(draft: &[u8], at: usize) -> usize
     ensures { (stream_at draft.now result ≡ past_blanks (stream_at draft.now at)) × (at ≤ result)
         × (result ≤ length draft.now) }
 {
-    let mut i = run(&draft[..], at, draft.len(), 8, 9);
+    let mut i = run(draft, at, draft.len(), Class::Blank, Class::Line);
     while i < draft.len() {
         if draft[i] != 0x0D {
             return i;
         }
-        let Character::Clean { number: _, after } = chars::character_at(&draft[..], i) else {
+        let Ok(Clean { after, .. }) = clean_at(draft, i) else {
             return i;
         };
-        i = run(&draft[..], after, draft.len(), 8, 9);
+        i = run(draft, after, draft.len(), Class::Blank, Class::Line);
     }
     i
 }
@@ -33,7 +34,7 @@ pub fn comment(draft: &[u8], at: usize) -> usize
 {
     let mut i = at;
     loop {
-        let Character::Clean { number, after } = chars::character_at(&draft[..], i) else {
+        let Ok(Clean { number, after }) = clean_at(draft, i) else {
             return i;
         };
         if number == 0x0A {
@@ -49,13 +50,13 @@ pub fn skip(draft: &[u8], at: usize) -> usize
     ensures { (stream_at draft.now result ≡ past_all false (stream_at draft.now at))
         × (result ≤ length draft.now) }
 {
-    let mut i = blanks(&draft[..], at);
+    let mut i = blanks(draft, at);
     while i < draft.len() {
         if draft[i] != b'#' {
             return i;
         }
-        let behind = comment(&draft[..], i + 1);
-        i = blanks(&draft[..], behind);
+        let behind = comment(draft, i + 1);
+        i = blanks(draft, behind);
     }
     i
 }

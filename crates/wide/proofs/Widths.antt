@@ -10,8 +10,8 @@ use lib.Seq.{drop-cons}
 use Rattle.chars.specs.Choice.{within}
 use Rattle.chars.specs.Character.{continued, lowest, highest, sequence, paired, judged, character, character_at}
 use Rattle.chars.specs.Rfc3629.{utf8_2, utf8_3, utf8_char}
-use Rattle.chars.specs.declared.Character.TheVariants.{Clean}
-use Rattle.chars.specs.declared.Sequence.TheVariants.{Whole}
+use Rattle.chars.specs.Character.{Clean}
+use Rattle.chars.specs.Character.{Whole}
 use Rattle.chars.proofs.Extent.{within_true, inside, encoded_four}
 use Rattle.tokens.proofs.Standing.{standing, taken}
 use Rattle.tokens.proofs.Skipping.{reaches}

@@ -1,7 +1,8 @@
 -- Characters above US-ASCII, one behind the other.
-use Rattle.std.specs.Prelude.{ℕ, ◌+◌, ◌≤◌, ◌≡◌, List, length}
+use Rattle.std.specs.Prelude.{ℕ, ◌+◌, ◌≤◌, ◌≡◌, List, Option, IfSome, length}
 use Rattle.chars.specs.Character.{character_at, encoded}
-use Rattle.chars.specs.declared.Character.TheVariants.{Clean}
+use Rattle.chars.specs.Character.{Clean}
+use Rattle.wide.specs.declared.Bytes.{Bytes}
 
 -- one at `i`, of so many bytes, of which cleaning takes `less` away
 pub record Wider (draft : List ℕ) (i bytes less : ℕ) : Type 0 where
@@ -15,3 +16,7 @@ pub record Wider (draft : List ℕ) (i bytes less : ℕ) : Type 0 where
 pub data Wides (draft : List ℕ) (at : ℕ) : (i less : ℕ) → Type 0 where
   none : Wides draft at at 0
   more : (i bytes gone less : ℕ) → Wides draft at i gone → Wider draft i bytes less → Wides draft at (i + bytes) (gone + less)
+
+-- one at `i` of so many bytes that cleaning leaves as they are, if any is told
+abbrev pub Stays : (draft : List ℕ) → (i bytes : ℕ) → Option Bytes → Type 0
+Stays draft i bytes told = IfSome told (λ c. (c.bytes ≡ bytes) × (c.less ≡ 0) × Wider draft i bytes 0)

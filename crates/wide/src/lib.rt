@@ -2,49 +2,37 @@
 
 #![tactic(auto)]
 
-ghost use Rattle.std.specs.Prelude.{◌≡◌, true, [], ◌∷◌, ◌+◌, ◌<◌, ◌≤◌, length, get_or};
+ghost use Rattle.std.specs.Prelude.{◌≡◌, ℕ, true, [], ◌∷◌, ◌<◌, ◌≤◌, Some, IfSome, length};
 ghost use Rattle.chars.specs.Choice.{within as within_by};
 ghost use Rattle.chars.specs.Rfc3629.{utf8_2, utf8_3, utf8_4};
-ghost use Rattle.wide.specs.Wide.{Wider, Wides};
+ghost use Rattle.wide.specs.Wide.{Stays, Wider, Wides};
 
-// A character's bytes, and how many of them cleaning takes away. 0 bytes say nothing.
-#[derive(Clone, Copy)]
+// A character's bytes, and how many of them cleaning takes away.
+#[derive(Clone, Copy, Debug, PartialEq, Eq)]
 pub struct Bytes {
     pub bytes: usize,
     pub less: usize,
 }
 
 // Where characters above US-ASCII end, and how many of their bytes cleaning takes away.
-#[derive(Clone, Copy)]
+#[derive(Clone, Copy, Debug, PartialEq, Eq)]
 pub struct Reach {
     pub after: usize,
     pub less: usize,
-}
-
-fn of(bytes: usize, less: usize) -> Bytes
-    ensures { result ≡ record { bytes = bytes; less = less } }
-{
-    Bytes { bytes, less }
 }
 
 // Whether a byte is from `low` to `high`.
 fn within(low: u8, high: u8, b: u8) -> bool
     ensures { result ≡ within_by low high b }
 {
-    if b < low {
-        return false;
-    }
-    b <= high
+    low <= b && b <= high
 }
 
 // Whether two bytes are one character, UTF8-2.
 fn two(b: u8, c: u8) -> bool
     ensures { result ≡ utf8_2 (b ∷ c ∷ []) }
 {
-    if !within(0xC2, 0xDF, b) {
-        return false;
-    }
-    within(0x80, 0xBF, c)
+    within(0xC2, 0xDF, b) && within(0x80, 0xBF, c)
 }
 
 // Whether three are one, UTF8-3: behind E0 no overlong form, behind ED no surrogate.
@@ -87,118 +75,102 @@ fn four(b: u8, c: u8, d: u8, e: u8) -> bool
     within(0x80, 0xBF, c)
 }
 
-// Behind ED: two surrogates, a high one and right behind it a low one.
-fn pair(draft: &[u8], at: usize) -> Bytes
-    requires { (at + 4 ≤ length draft.now) × (get_or draft.now at 0 ≡ 0xED) }
-    ensures { 0 < result.bytes → Wider draft.now at result.bytes result.less }
+// Two bytes at a place that are one character.
+fn two_at(draft: &[u8], at: usize) -> Option<Bytes>
+    requires { at ≤ length draft.now }
+    ensures { Stays draft.now at 2 result }
 {
-    if draft.len() - at < 6 {
-        return of(0, 0);
+    if draft.len() - at < 2 || !two(draft[at], draft[at + 1]) {
+        return None;
     }
-    if !within(0xA0, 0xAF, draft[at + 1]) {
-        return of(0, 0);
-    }
-    if !within(0x80, 0xBF, draft[at + 2]) {
-        return of(0, 0);
-    }
-    if draft[at + 3] != 0xED {
-        return of(0, 0);
-    }
-    if !within(0xB0, 0xBF, draft[at + 4]) {
-        return of(0, 0);
-    }
-    if !within(0x80, 0xBF, draft[at + 5]) {
-        return of(0, 0);
-    }
-    of(6, 2)
+    Some(Bytes { bytes: 2, less: 0 })
 }
 
-// The character above US-ASCII at a place; 0 bytes where none stands there, or fewer than four bytes are left.
-fn wide(draft: &[u8], at: usize) -> Bytes
-    requires { at < length draft.now }
-    ensures { 0 < result.bytes → Wider draft.now at result.bytes result.less }
+// Three.
+fn three_at(draft: &[u8], at: usize) -> Option<Bytes>
+    requires { at ≤ length draft.now }
+    ensures { Stays draft.now at 3 result }
 {
-    if draft.len() - at < 4 {
-        return of(0, 0);
+    if draft.len() - at < 3 {
+        return None;
     }
     let b = draft[at];
-    let c = draft[at + 1];
-    let d = draft[at + 2];
+    if !within(0xE0, 0xEF, b) || !three(b, draft[at + 1], draft[at + 2]) {
+        return None;
+    }
+    Some(Bytes { bytes: 3, less: 0 })
+}
+
+// Four.
+fn four_at(draft: &[u8], at: usize) -> Option<Bytes>
+    requires { at ≤ length draft.now }
+    ensures { Stays draft.now at 4 result }
+{
+    if draft.len() - at < 4 {
+        return None;
+    }
+    let b = draft[at];
+    if b < 0xF0 || !four(b, draft[at + 1], draft[at + 2], draft[at + 3]) {
+        return None;
+    }
+    Some(Bytes { bytes: 4, less: 0 })
+}
+
+// Two surrogates, a high one and right behind it a low one.
+fn pair_at(draft: &[u8], at: usize) -> Option<Bytes>
+    requires { at ≤ length draft.now }
+    ensures { IfSome result (λ c. Wider draft.now at c.bytes c.less) }
+{
+    if draft.len() - at < 6 {
+        return None;
+    }
+    if draft[at] != 0xED
+        || !within(0xA0, 0xAF, draft[at + 1])
+        || !within(0x80, 0xBF, draft[at + 2])
+    {
+        return None;
+    }
+    if draft[at + 3] != 0xED
+        || !within(0xB0, 0xBF, draft[at + 4])
+        || !within(0x80, 0xBF, draft[at + 5])
+    {
+        return None;
+    }
+    Some(Bytes { bytes: 6, less: 2 })
+}
+
+// The character above US-ASCII at a place, if one stands there and four bytes are left.
+fn wide_at(draft: &[u8], at: usize) -> Option<Bytes>
+    requires { at ≤ length draft.now }
+    ensures { IfSome result (λ c. Wider draft.now at c.bytes c.less) }
+{
+    if draft.len() - at < 4 {
+        return None;
+    }
+    let b = draft[at];
     if b < 0xE0 {
-        if two(b, c) {
-            return of(2, 0);
-        }
-        return of(0, 0);
+        return two_at(draft, at);
     }
-    if b < 0xF0 {
-        if three(b, c, d) {
-            return of(3, 0);
-        }
-        if b == 0xED {
-            return pair(draft, at);
-        }
-        return of(0, 0);
+    if 0xF0 <= b {
+        return four_at(draft, at);
     }
-    if four(b, c, d, draft[at + 3]) {
-        return of(4, 0);
-    }
-    of(0, 0)
+    three_at(draft, at).or_else(|| pair_at(draft, at))
 }
 
-// From `at` on, behind characters of two bytes.
-fn past_two(draft: &[u8], at: usize) -> usize
-    requires { at ≤ length draft.now }
-    ensures { Wides draft.now at result 0 × (result ≤ length draft.now) }
+// From `at` on, behind characters of one sort.
+fn past<F: Fn(&[u8], usize) -> Option<Bytes>>(draft: &[u8], at: usize, one: F) -> Reach
+    requires within { at ≤ length draft.now }
+    requires callable { (i : ℕ) → i ≤ length draft.now → F.pre one draft i }
+    requires each { (i : ℕ) (c : _) → F.post one draft i (Some c) → Wider draft.now i c.bytes c.less }
+    ensures reach { Wides draft.now at result.after result.less × (result.after ≤ length draft.now) }
+    ensures stays { ((d : _) (i : ℕ) (c : _) → F.post one d i (Some c) → c.less ≡ 0) → result.less ≡ 0 }
 {
-    let end = draft.len();
-    let mut i = at;
-    while 2 <= end - i {
-        if !two(draft[i], draft[i + 1]) {
-            return i;
-        }
-        i += 2;
+    let mut reach = Reach { after: at, less: 0 };
+    while let Some(c) = one(draft, reach.after) {
+        reach.after += c.bytes;
+        reach.less += c.less;
     }
-    i
-}
-
-// The same with three bytes.
-fn past_three(draft: &[u8], at: usize) -> usize
-    requires { at ≤ length draft.now }
-    ensures { Wides draft.now at result 0 × (result ≤ length draft.now) }
-{
-    let end = draft.len();
-    let mut i = at;
-    while 3 <= end - i {
-        let b = draft[i];
-        if !within(0xE0, 0xEF, b) {
-            return i;
-        }
-        if !three(b, draft[i + 1], draft[i + 2]) {
-            return i;
-        }
-        i += 3;
-    }
-    i
-}
-
-// The same with four bytes.
-fn past_four(draft: &[u8], at: usize) -> usize
-    requires { at ≤ length draft.now }
-    ensures { Wides draft.now at result 0 × (result ≤ length draft.now) }
-{
-    let end = draft.len();
-    let mut i = at;
-    while 4 <= end - i {
-        let b = draft[i];
-        if b < 0xF0 {
-            return i;
-        }
-        if !four(b, draft[i + 1], draft[i + 2], draft[i + 3]) {
-            return i;
-        }
-        i += 4;
-    }
-    i
+    reach
 }
 
 // Behind letters of two bytes and then signs of three. It is short enough to be put into its callers, where `past_wide` stays a call.
@@ -206,7 +178,7 @@ pub fn past_narrow(draft: &[u8], at: usize) -> usize
     requires { at ≤ length draft.now }
     ensures { Wides draft.now at result 0 × (result ≤ length draft.now) }
 {
-    past_three(draft, past_two(draft, at))
+    past(draft, past(draft, at, two_at).after, three_at).after
 }
 
 // The same, or where none of these stands there, behind pictures of four. It is for one caller alone, since what has two would stay a call.
@@ -218,7 +190,7 @@ pub fn past_widths(draft: &[u8], at: usize) -> usize
     if narrow != at {
         return narrow;
     }
-    past_four(draft, at)
+    past(draft, at, four_at).after
 }
 
 // From `at` on, behind characters above US-ASCII.
@@ -226,18 +198,7 @@ pub fn past_wide(draft: &[u8], at: usize) -> Reach
     requires { at ≤ length draft.now }
     ensures { Wides draft.now at result.after result.less × (result.after ≤ length draft.now) }
 {
-    let mut i = at;
-    let mut less: usize = 0;
-    while i < draft.len() {
-        let w = wide(&draft[..], i);
-        let bytes = w.bytes;
-        if bytes == 0 {
-            return Reach { after: i, less };
-        }
-        less += w.less;
-        i += bytes;
-    }
-    Reach { after: i, less }
+    past(draft, at, wide_at)
 }
 
 // The same of surrogate pairs alone. It is short enough to be put into its caller.
@@ -245,19 +206,5 @@ pub fn past_pairs(draft: &[u8], at: usize) -> Reach
     requires { at ≤ length draft.now }
     ensures { Wides draft.now at result.after result.less × (result.after ≤ length draft.now) }
 {
-    let mut i = at;
-    let mut less: usize = 0;
-    while 6 <= draft.len() - i {
-        if draft[i] != 0xED {
-            return Reach { after: i, less };
-        }
-        let w = pair(draft, i);
-        let bytes = w.bytes;
-        if bytes == 0 {
-            return Reach { after: i, less };
-        }
-        less += w.less;
-        i += bytes;
-    }
-    Reach { after: i, less }
+    past(draft, at, pair_at)
 }

@@ -1,23 +1,18 @@
 -- The invariant: what the definition answers from this entity and these cells on is what it answers from the first one on.
 use mathlib.Core.Path.{◌≡◌}
 use mathlib.Core.Bool.{true}
-use Prim.Native.Nat.{◌-◌, ◌≤◌}
+use Prim.Native.Nat.{◌-◌}
 use Rattle.chars.specs.Limits.{limits}
 use Rattle.table.specs.Entered.{operations_of}
 use Rattle.rules.specs.Cells.{through}
 use Rattle.rules.specs.Kinds.{kinds}
 use Rattle.cells.specs.Kept.{entities_from, grouped, check_kept}
-use Rattle.sight.specs.Arrays.{state_of, Standing, Hiding}
+use Rattle.sight.specs.Stacks.{state_in, Stands}
 use Rattle.cells.proofs.check_kept.Given as goal
 
 abbrev pub invariant-loop-i : goal.invariant-loop-i
 invariant-loop-i l =
-    (l.i ≤ l.n)
-    × Standing l.text l.cells l.index l.whats l.s
-    × Hiding l.bases l.s
-    × (grouped 64 l.s.depth (entities_from l.list l.text l.i (l.n - l.i)) ≡ true)
-    × (through limits kinds (operations_of l.table) l.i (state_of l.text l.cells l.bases l.index l.whats l.s) (entities_from l.list l.text l.i (l.n - l.i))
+    Stands l.text l.stack
+    × (grouped 64 l.stack.counts.depth (entities_from l.list l.text l.i (l.n - l.i)) ≡ true)
+    × (through limits kinds (operations_of l.table) l.i (state_in l.text l.stack) (entities_from l.list l.text l.i (l.n - l.i))
     ≡ check_kept limits (operations_of l.table) l.list l.text l.n)
-
-abbrev pub decreases-loop-i : goal.decreases-loop-i
-decreases-loop-i l = l.n - l.i

@@ -5,8 +5,8 @@ use mir.Syntax.{w64}
 use Rattle.copying.proofs.Copying.{Copying}
 use Rattle.copying.proofs.copy.Given as goal
 
-abbrev pub invariant-loop-four : goal.invariant-loop-four
-invariant-loop-four l = Copying l.draft l.from l.n l.initial.out l.out l.i l.k × Fits w64 l.i
+abbrev pub invariant-loop-two : goal.invariant-loop-two
+invariant-loop-two l = Copying l.draft l.from l.n l.initial.out l.out l.i l.k × Fits w64 l.i
 
-abbrev pub decreases-loop-four : goal.decreases-loop-four
-decreases-loop-four l = l.n - l.k
+abbrev pub decreases-loop-two : goal.decreases-loop-two
+decreases-loop-two l = l.n - l.k

@@ -1,97 +1,55 @@
 -- `operations::items` meets its contract. The invariant: taking the other items from the cells that are left comes to the same as
 -- taking all items from all cells. Assumes nothing.
 use mathlib.Core.Path.{◌≡◌}
-use Prim.Native.Nat.{suc, ◌+◌, ◌-◌}
+use mathlib.Core.List.{[]}
+use Prim.Native.Nat.{◌≤◌}
 use native.Mathlib.Omega.{arith}
-use lib.ListN.{get_or}
+use lib.ListN.{get_or, drop, drop_of_length-le}
+use Rattle.std.proofs.lemmas.Result.{err_from_is_err_and}
 use Rattle.chars.specs.Limits.{limits}
 use Rattle.table.specs.Table.{item}
 use Rattle.rules.specs.Cells.{take_item, take_items}
 use Rattle.rules.specs.Kinds.{kinds}
 use Rattle.sight.specs.Arrays.{sight_of}
 use Rattle.operations.specs.Taken.{left_of, at_most}
-use Rattle.operations.proofs.Taking.{refused, taken}
+use Rattle.operations.proofs.Taking.{of_lower, refused, taken}
 use Rattle.operations.proofs.items.Goals as goal
-use Rattle.operations.proofs.items.Goals.{After-item-r}
+use Rattle.operations.proofs.items.Goals.{After-item}
 
-pub overflow_add-row : goal.overflow_add-row
-overflow_add-row c = omega arith
-
-pub bounds-table-row : goal.bounds-table-row
-bounds-table-row c = omega arith
-
-pub loop-k-init : goal.loop-k-init
-loop-k-init c =
-    let row = c.args.row in
-    let all : c.size-n.result - 0 ≡ c.size-n.result = omega arith in
-    let first : row + 257 + 0 ≡ row + 257 = omega arith in
-    (omega arith, omega arith, rw (all, first))
-
-pub overflow_add-row-in-loop-k : goal.overflow_add-row-in-loop-k
-overflow_add-row-in-loop-k c = omega arith
-
-pub overflow_add-row-in-loop-k-2 : goal.overflow_add-row-in-loop-k-2
-overflow_add-row-in-loop-k-2 c = omega arith
-
-pub overflow_add-row-in-loop-k-3 : goal.overflow_add-row-in-loop-k-3
-overflow_add-row-in-loop-k-3 c = omega arith
-
-pub bounds-table-row-in-loop-k : goal.bounds-table-row-in-loop-k
-bounds-table-row-in-loop-k c = omega arith
-
-pub item-r-requires : goal.item-r-requires
-item-r-requires c = omega arith
-
--- what the call for an item says, in the words of the table
+-- what the call for an item says of all cells
 this_item :
-    (c : After-item-r)
+    (c : After-item)
     → let a = c.args in
-    let l = c.loop-k in
-    left_of a.cells.now a.base c.item-r.result
-    ≡ take_item limits kinds (item (get_or a.table.now (a.row + 257 + l.k) 0)) (sight_of a.cells.now a.base l.left)
+    let l = c.loop-i in
+    (left_of a.cells.now 0 c.item.result ≡ take_item limits kinds (item (get_or a.wanted.now l.i-index 0)) (sight_of a.cells.now 0 l.left))
+    × at_most l.left c.item.result
 this_item c =
-    let row = c.args.row in
-    let k = c.loop-k.k in
-    let place : row + 257 + k ≡ row + 256 + 1 + k = omega arith in
-    rw (place, ← c.cell.ensures.0) c.item-r.ensures.0
+    let e = rw c.from.ensures at c.item.ensures in
+    of_lower c.args.cells.now c.loop-i.left c.item.result _ c.loop-i.invariant.0 e.0 e.1
 
-pub returns-in-Refuses : goal.returns-in-Refuses
+pub returns-in_err-left : goal.returns-in_err-left
 unfolding left_of at_most
-returns-in-Refuses c =
+returns-in_err-left c =
+    let p = err_from_is_err_and c.from_residual.result c.from_residual.ensures.1 in
     let a = c.args in
-    let n = c.size-n in
-    let l = c.loop-k in
-    let from = a.row + 257 + l.k in
-    let others = n.result - (l.k + 1) in
-    let counted : n.result - l.k ≡ suc others = omega arith in
-    let first = this_item (goal.at.returns-in-Refuses c).After-item-r in
-    let none = refused a.table.now a.cells.now from others a.base l.left _ (omega arith) first c.in-Refuses.rule c.in-Refuses.is in
-    (rw (← n.ensures.0, ← l.invariant.2, counted, none), tt)
+    let l = c.loop-i in
+    let first = this_item (goal.at.returns-in_err-left c).After-item in
+    let none = refused a.wanted.now a.cells.now l.i-index l.left c.item.result (omega arith) first.0 c.in_err-left.field-0.0 c.in_err-left.was in
+    rw (p.1, p.2) (rw (← l.invariant.1, none), tt)
 
-pub overflow_add-k : goal.overflow_add-k
-overflow_add-k c = omega arith
-
-pub loop-k-smaller : goal.loop-k-smaller
-loop-k-smaller c = omega arith
-
-pub loop-k-preserved : goal.loop-k-preserved
+pub loop-i-preserved : goal.loop-i-preserved
 unfolding at_most
-loop-k-preserved c =
+loop-i-preserved c =
     let a = c.args in
-    let n = c.size-n in
-    let l = c.loop-k in
-    let from = a.row + 257 + l.k in
-    let others = n.result - (l.k + 1) in
-    let counted : n.result - l.k ≡ suc others = omega arith in
-    let next : a.row + 257 + (l.k + 1) ≡ a.row + 257 + l.k + 1 = omega arith in
-    let first = this_item (goal.at.loop-k-preserved c).After-item-r in
-    let rest = taken a.table.now a.cells.now from others a.base l.left _ (omega arith) first c.in-Leaves.now c.in-Leaves.is in
-    (omega arith, omega (arith, rw c.in-Leaves.is at c.item-r.ensures.1), rw (← l.invariant.2, counted, rest, next))
+    let l = c.loop-i in
+    let first = this_item (goal.at.loop-i-preserved c).After-item in
+    let rest = taken a.wanted.now a.cells.now l.i-index l.left c.item.result (omega arith) first.0 c.in_ok-left.left c.in_ok-left.was in
+    let fewer : c.in_ok-left.left ≤ l.left = rw c.in_ok-left.was at first.1 in
+    (omega arith, rw (← rest) l.invariant.1)
 
 pub returns : goal.returns
 unfolding left_of at_most take_items
 returns c =
-    let l = c.loop-k in
-    let n = c.size-n in
-    let none : n.result - l.k ≡ 0 = omega arith in
-    (rw (← n.ensures.0, ← l.invariant.2, none), l.invariant.1)
+    let l = c.loop-i in
+    let none : drop l.i-index c.args.wanted.now ≡ [] = drop_of_length-le c.args.wanted.now (omega arith) in
+    (rw none at l.invariant.1, l.invariant.0)

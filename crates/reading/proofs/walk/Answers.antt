@@ -1,69 +1,89 @@
 -- `reading::walk` meets its contract. The invariant is what holds behind every round. Assumes nothing.
 use mathlib.Core.Path.{refl, ◌∙◌}
 use native.Mathlib.Omega.{arith}
-use Rattle.reading.proofs.Rounds.{opened, short, ready, turned, less, answered}
+use Rattle.std.specs.Prelude.{Ok, Err}
+use Rattle.chars.specs.Refusal.{number_of}
+use Rattle.reading.specs.Rounds.{On, Over, nothing}
+use Rattle.reading.proofs.Rounds.{begun, short, ready, turned, less, answered}
 use Rattle.reading.proofs.walk.Goals as goal
 
-pub loop-r-init : goal.loop-r-init
-loop-r-init c =
-    let a = c.args in (
-      rw c.opening-r.ensures (opened a.draft.now a.list.now a.text.now a.groups.now c.requires),
-      refl,
-      refl,
-      c.requires,
-    )
-
-pub go_round-r-requires : goal.go_round-r-requires
-go_round-r-requires c =
+pub returns-in-Err : goal.returns-in-Err
+returns-in-Err c =
     let a = c.args in
-    let l = c.loop-r in
-    let on = c.loop-r-test.true in
-    let is = c.past_blanks-place.ensures in (
-      short a.draft.now l.list l.text l.groups l.r on _ is a.list.now a.text.now l.invariant.0,
-      ready a.draft.now l.list l.text l.groups l.r on _ is a.list.now a.text.now l.invariant.0,
-    )
-
-pub loop-r-smaller : goal.loop-r-smaller
-loop-r-smaller c =
-    let a = c.args in
-    let l = c.loop-r in
-    let on = c.loop-r-test.true in
-    let is = c.past_blanks-place.ensures in
-    let went = c.go_round-r in
-    less a.draft.now l.list l.text l.groups l.r on _ is _ went.new.list went.new.text went.new.groups went.ensures
-
-pub loop-r-preserved : goal.loop-r-preserved
-loop-r-preserved c =
-    let a = c.args in
-    let l = c.loop-r in
-    let on = c.loop-r-test.true in
-    let is = c.past_blanks-place.ensures in
-    let went = c.go_round-r in (
-      turned a.draft.now l.list l.text l.groups l.r on _ is a.list.now a.text.now l.invariant.0 _ went.new.list
-          went.new.text went.new.groups went.ensures (omega (arith, went.auto)) (omega (arith, went.auto)),
-      omega (arith, went.auto, l.invariant.1),
-      omega (arith, went.auto, l.invariant.2),
-      omega (arith, went.auto, l.invariant.3),
-    )
-
-pub shape_of-list : goal.shape_of-list
-shape_of-list c = c.loop-r.invariant.1
-
-pub shape_of-text : goal.shape_of-text
-shape_of-text c = c.loop-r.invariant.2
-
-pub shape_of-groups : goal.shape_of-groups
-shape_of-groups c =
-    omega (
-      arith,
-      c.loop-r.invariant.3,
-      c.requires,
-    )
-
-pub returns : goal.returns
-returns c =
-    let a = c.args in
-    let l = c.loop-r in
-    let left = c.loop-r-test.false in
-    let end = answered a.draft.now a.list.now a.text.now l.list l.text l.groups l.r left l.invariant.0 in
+    let r = c.in-Err.refused in
+    let end =
+    answered a.draft.now a.list.now a.text.now a.list.now a.text.now a.groups.now (number_of r.refusal) r.place nothing 0
+    (begun a.draft.now a.list.now a.text.now a.groups.now c.requires (Err r) c.in-Err.ensures) in
     record { value = c.told.ensures ∙ end.0; list_after = end.1; text_after = end.2 }
+
+pub loop-state-init : goal.loop-state-init
+loop-state-init c =
+    let a = c.args in
+    record {
+      so_far = begun a.draft.now a.list.now a.text.now a.groups.now c.requires (Ok c.in-Ok.start) c.in-Ok.ensures;
+      same_list = refl;
+      same_text = refl;
+      array = c.requires;
+    }
+
+pub go_round-requires : goal.go_round-requires
+go_round-requires c =
+    let a = c.args in
+    let l = c.loop-state in
+    let is = c.past_blanks-place.ensures in (
+      short a.draft.now a.list.now a.text.now l.list l.text l.groups l.s l.at l.invariant.so_far _ is,
+      ready a.draft.now a.list.now a.text.now l.list l.text l.groups l.s l.at l.invariant.so_far _ is,
+    )
+
+pub loop-state-smaller : goal.loop-state-smaller
+loop-state-smaller c =
+    let a = c.args in
+    let l = c.loop-state in
+    let new = c.go_round.new in
+    let next = c.in-Ok-Next in
+    rw next.field-0-is
+    (less a.draft.now l.list l.text l.groups l.s l.at _ c.past_blanks-place.ensures next.state next.after new.list new.text new.groups
+    (rw next.field-0-is at next.ensures))
+
+pub loop-state-preserved : goal.loop-state-preserved
+loop-state-preserved c =
+    let a = c.args in
+    let l = c.loop-state in
+    let new = c.go_round.new in
+    let next = c.in-Ok-Next in
+    record {
+      so_far =
+          rw next.field-0-is
+          (turned a.draft.now a.list.now a.text.now l.list l.text l.groups l.s l.at l.invariant.so_far _ c.past_blanks-place.ensures
+          (On next.state next.after) new.list new.text new.groups (rw next.field-0-is at next.ensures)
+          (omega (arith, c.go_round.auto)) (omega (arith, c.go_round.auto)));
+      same_list = omega (arith, c.go_round.auto, l.invariant.same_list);
+      same_text = omega (arith, c.go_round.auto, l.invariant.same_text);
+      array = omega (arith, c.go_round.auto, l.invariant.array);
+    }
+
+pub returns-in-Ok-Last : goal.returns-in-Ok-Last
+returns-in-Ok-Last c =
+    let a = c.args in
+    let l = c.loop-state in
+    let new = c.go_round.new in
+    let last = c.in-Ok-Last in
+    let end =
+    answered a.draft.now a.list.now a.text.now new.list new.text new.groups 0 0 last.state last.after
+    (turned a.draft.now a.list.now a.text.now l.list l.text l.groups l.s l.at l.invariant.so_far _ c.past_blanks-place.ensures
+    (Over 0 0 last.state last.after) new.list new.text new.groups (rw last.field-0-is at last.ensures)
+    (omega (arith, c.go_round.auto)) (omega (arith, c.go_round.auto))) in
+    record { value = c.told-in-Ok-Last.ensures ∙ rw last.field-0-is end.0; list_after = end.1; text_after = end.2 }
+
+pub returns-in-Err-go_round : goal.returns-in-Err-go_round
+returns-in-Err-go_round c =
+    let a = c.args in
+    let l = c.loop-state in
+    let new = c.go_round.new in
+    let r = c.in-Err-go_round.refused in
+    let end =
+    answered a.draft.now a.list.now a.text.now new.list new.text new.groups (number_of r.refusal) r.place l.s 0
+    (turned a.draft.now a.list.now a.text.now l.list l.text l.groups l.s l.at l.invariant.so_far _ c.past_blanks-place.ensures
+    (Over (number_of r.refusal) r.place l.s 0) new.list new.text new.groups c.in-Err-go_round.ensures
+    (omega (arith, c.go_round.auto)) (omega (arith, c.go_round.auto))) in
+    record { value = c.told-in-Err-go_round.ensures ∙ end.0; list_after = end.1; text_after = end.2 }

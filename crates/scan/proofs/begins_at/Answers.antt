@@ -1,22 +1,22 @@
 -- `scan::begins_at` meets its contract: the byte tells, and of `|` the byte behind it. Assumes nothing.
-use mathlib.Core.Path.{sym, ◌∙◌}
-use borrow.Author.Tests.{eq-eqb, ne_eqb}
+use mathlib.Core.Path.{sym, ◌∙◌, ap}
 use Rattle.runs.specs.Bytes.{begins_at}
+use Rattle.runs.specs.Codes.{begins_code}
+use Rattle.scan.proofs.Begun.{no_bar}
 use Rattle.scan.proofs.begins_at.Goals as goal
 
-pub returns-then-not-is_last : goal.returns-then-not-is_last
-unfolding begins_at
-returns-then-not-is_last c =
-    let five = eq-eqb _ 5 (sym c.begins-begins.ensures ∙ c.if-begins-eq5.true) in
-    rw (five, sym c.is_last.ensures ∙ c.if-not-is_last.true)
+pub returns-then-is_last : goal.returns-then-is_last
+unfolding begins_code begins_at
+returns-then-is_last c =
+    let five = sym c.begins-begins.ensures ∙ ap begins_code c.in-Bar.is in
+    rw (c.in-Bar.is, five, sym c.is_last.ensures ∙ c.if-is_last.true)
 
-pub returns-else-not-is_last : goal.returns-else-not-is_last
-unfolding begins_at
-returns-else-not-is_last c =
-    let five = eq-eqb _ 5 (sym c.begins-begins.ensures ∙ c.if-begins-eq5.true) in
-    rw (five, sym c.is_last.ensures ∙ c.if-not-is_last.false) c.if-begins-eq5.true
+pub returns-else-is_last : goal.returns-else-is_last
+unfolding begins_code begins_at
+returns-else-is_last c =
+    let five = sym c.begins-begins.ensures ∙ ap begins_code c.in-Bar.is in
+    rw (five, sym c.is_last.ensures ∙ c.if-is_last.false)
 
-pub returns-else-begins-eq5 : goal.returns-else-begins-eq5
+pub returns-in_default : goal.returns-in_default
 unfolding begins_at
-returns-else-begins-eq5 c =
-    rw (ne_eqb _ 5 (λ five. c.if-begins-eq5.false (c.begins-begins.ensures ∙ five))) c.begins-begins.ensures
+returns-in_default c = rw (sym c.begins-begins.ensures, no_bar c.begins-begins.result c.in_default.not-Bar)

@@ -1,15 +1,14 @@
--- `scan::found` meets its contract: the straight way knows, or the token as `tokens` has it is taken apart, and begins there, since neither
--- whitespace nor a comment does. Assumes nothing.
-use mathlib.Core.Path.{◌∙◌, ap}
-use Rattle.scan.specs.Found.{piece_of}
-use Rattle.scan.proofs.Finding.{general_told}
+-- `scan::found` meets its contract: the straight way knows, or the token as `tokens` has it begins there, since neither whitespace nor a
+-- comment does. Assumes nothing.
+use mathlib.Core.Path.{◌≡◌}
+use borrow.Author.Rules.{rules}
+use Rattle.scan.specs.Told.{told_piece}
+use Rattle.scan.proofs.Finding.{pieced, general_told}
 use Rattle.scan.proofs.found.Goals as goal
 
-pub returns-then-p-ne6 : goal.returns-then-p-ne6
-returns-then-p-ne6 c = c.straight-p.ensures.0 c.if-p-ne6.true
-
-pub returns : goal.returns
-returns c =
+pub returns-in-None : goal.returns-in-None
+returns-in-None c =
     let a = c.args in
-    general_told a.draft.now a.at (c.straight-p.ensures.1 c.if-p-ne6.false) _
-    (c.apart-g.ensures ∙ ap piece_of c.token_at.ensures)
+    let known = c.token_at.ensures in
+    let e : told_piece c.map.result ≡ told_piece (pieced c.token_at.result) = search rules in
+    rw e (general_told a.draft.now a.at (c.straight.ensures.1 c.in-None.is) c.token_at.result known.told known.plain)

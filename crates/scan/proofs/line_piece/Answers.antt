@@ -1,30 +1,26 @@
 -- `scan::line_piece` meets its contract: CR LF is one LF, and so is passed over. Assumes nothing.
-use native.Mathlib.Omega.{arith}
 use Prim.Native.Nat.{◌+◌}
+use native.Mathlib.Omega.{arith}
 use Rattle.scan.proofs.Starts.{blank_line}
 use Rattle.scan.proofs.Places.{stands_other, stands_none}
-use Rattle.scan.proofs.Finding.{unknown_told, passed_told, found_told}
+use Rattle.scan.proofs.Finding.{passed_told}
 use Rattle.scan.proofs.line_piece.Goals as goal
-
-pub returns-then-draft-at-ne13 : goal.returns-then-draft-at-ne13
-returns-then-draft-at-ne13 c =
-    let a = c.args in
-    let p = c.requires in (
-      unknown_told a.draft.now a.at _ c.unknown.ensures,
-      λ six. stands_other a.draft.now a.at p.1 c.if-draft-at-ne13.true,
-    )
+use Rattle.scan.proofs.line_piece.Goals.{else-draft-at-eq13-via-then-draft-at-eq13+else-is_line, else-draft-at-eq13-via-else-draft-at-eq13}
 
 pub returns-then-is_line : goal.returns-then-is_line
 returns-then-is_line c =
     let a = c.args in
     let e = c.is_line.ensures.0 c.if-is_line.true in
-    found_told a.draft.now a.at _
-    (passed_told a.draft.now a.at (a.at + 2) (omega arith) e.0 (blank_line a.draft.now a.at e.1) _
-    c.whole.ensures)
+    (passed_told a.draft.now a.at (a.at + 2) (omega arith) e.0 (blank_line a.draft.now a.at e.1), λ none. cc)
 
 pub returns : goal.returns
 returns c =
     let a = c.args in (
-      unknown_told a.draft.now a.at _ c.unknown-2.ensures,
-      λ six. stands_none a.draft.now a.at (c.is_line.ensures.1 c.if-is_line.false),
+      tt,
+      λ none.
+          elim c.else-draft-at-eq13.branch [
+            | else-draft-at-eq13-via-then-draft-at-eq13+else-is_line w ↦
+                stands_none a.draft.now a.at (w.is_line.ensures.1 w.if-is_line.false)
+            | else-draft-at-eq13-via-else-draft-at-eq13 w ↦ stands_other a.draft.now a.at c.requires.1 w.if-draft-at-eq13.false
+          ],
     )

@@ -4,10 +4,10 @@ use native.Mathlib.Omega.{arith}
 use Rattle.sight.specs.Arrays.{plain_of}
 use Rattle.sight.proofs.plain.Goals as goal
 
-pub returns-then-c-lt16 : goal.returns-then-c-lt16
+pub returns-then-c-lt-KINDS : goal.returns-then-c-lt-KINDS
 unfolding plain_of
-returns-then-c-lt16 c = (rw (lt-ltb c.args.c 16 c.if-c-lt16.true), c.if-c-lt16.true)
+returns-then-c-lt-KINDS c = (rw (lt-ltb c.args.c 16 c.if-c-lt-KINDS.true), c.if-c-lt-KINDS.true)
 
-pub returns-else-c-lt16 : goal.returns-else-c-lt16
+pub returns-else-c-lt-KINDS : goal.returns-else-c-lt-KINDS
 unfolding plain_of
-returns-else-c-lt16 c = (rw (le-ltb c.args.c 16 c.if-c-lt16.false), omega arith)
+returns-else-c-lt-KINDS c = (rw (le-ltb c.args.c 16 c.if-c-lt-KINDS.false), omega arith)

@@ -1,23 +1,24 @@
--- `step::onward` meets its contract: each arm is the definition at its variant. Assumes nothing.
+-- Each arm is the definition at its variant: of a whole token, of whatever sort, the byte after it.
+use Rattle.std.proofs.Common.{◌≡◌, sym, rules, Ok}
 use Rattle.tokens.specs.Step.{onward}
+use Rattle.tokens.specs.Told.{told_sort}
+use Rattle.tokens.specs.declared.Token.TheVariants.{Whole, Last}
+use Rattle.step.proofs.Stepping.{shown_onward}
 use Rattle.step.proofs.onward.Goals as goal
 
-pub returns-in-Simple : goal.returns-in-Simple
-unfolding onward
-returns-in-Simple c = rw c.in-Simple.is
+pub returns-in-Ok-Whole : goal.returns-in-Ok-Whole
+returns-in-Ok-Whole c =
+    let w = c.in-Ok-Whole.w in
+    let e : c.args.token ≡ Ok (Whole w) = search rules in
+    rw e (sym (shown_onward c.args.place w.place w.after w.prefix w.from w.length (told_sort w.sort)))
 
-pub returns-in-Quoted : goal.returns-in-Quoted
+pub returns-in-Ok-Last : goal.returns-in-Ok-Last
 unfolding onward
-returns-in-Quoted c = rw c.in-Quoted.is
+returns-in-Ok-Last c =
+    let l = c.in-Ok-Last in
+    let e : c.args.token ≡ Ok (Last l.field-0-0 l.field-0-1) = search rules in
+    rw e
 
-pub returns-in-Curly : goal.returns-in-Curly
+pub returns-in-Err : goal.returns-in-Err
 unfolding onward
-returns-in-Curly c = rw c.in-Curly.is
-
-pub returns-in-Last : goal.returns-in-Last
-unfolding onward
-returns-in-Last c = rw c.in-Last.is
-
-pub returns-in-Refused : goal.returns-in-Refused
-unfolding onward
-returns-in-Refused c = rw c.in-Refused.is
+returns-in-Err c = rw c.in-Err.is

@@ -1,10 +1,12 @@
--- `step::step_at` meets its contract: it tells the token that `token` finds, with the place reached behind it. Assumes nothing.
-use mathlib.Core.Path.{◌∙◌, ap}
+-- It tells the token that `token` finds, with the place reached behind it.
+use Rattle.std.proofs.Common.{◌∙◌, ap}
+use Rattle.tokens.specs.Told.{told_token}
 use Rattle.step.specs.Answer.{answered, answer_of}
 use Rattle.step.proofs.step_at.Goals as goal
 
 pub returns : goal.returns
 unfolding answer_of
 returns c =
-    let t = c.token-t.result in
-    c.told.ensures ∙ (ap (λ next. answered next t) c.onward.ensures ∙ ap (answer_of _) c.token-t.ensures)
+    let t = c.token-t in
+    c.told.ensures t.ensures.plain
+    ∙ (ap (λ next. answered next (told_token t.result)) c.onward.ensures ∙ ap (answer_of _) t.ensures.told)

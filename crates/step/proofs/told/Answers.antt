@@ -1,25 +1,14 @@
--- `step::told` meets its contract: each arm tells what the definition tells of its variant. Assumes nothing.
-use mathlib.Core.Path.{refl, ◌∙◌}
-use Rattle.tokens.specs.Step.{told}
+-- The place reached is the one part that the conversion leaves at 0.
+use Rattle.std.proofs.Common.{◌≡◌, ℕ, refl}
+use Rattle.tokens.specs.Tokens.{Token}
+use Rattle.tokens.specs.Told.{told_token}
 use Rattle.step.specs.Answer.{answered}
+use Rattle.step.specs.declared.Answer.{Answer}
 use Rattle.step.proofs.told.Goals as goal
 
-pub returns-in-Simple : goal.returns-in-Simple
-unfolding told answered
-returns-in-Simple c = c.whole.ensures ∙ rw c.in-Simple.is refl
+with_next : (next : ℕ) (a : Answer) (t : Token) → a ≡ answered 0 t → record a { next = next } ≡ answered next t
+unfolding answered
+with_next next a t e = rw e refl
 
-pub returns-in-Quoted : goal.returns-in-Quoted
-unfolding told answered
-returns-in-Quoted c = c.whole-in-Quoted.ensures ∙ rw c.in-Quoted.is refl
-
-pub returns-in-Curly : goal.returns-in-Curly
-unfolding told answered
-returns-in-Curly c = c.whole-in-Curly.ensures ∙ rw c.in-Curly.is refl
-
-pub returns-in-Last : goal.returns-in-Last
-unfolding told answered
-returns-in-Last c = c.whole-in-Last.ensures ∙ rw c.in-Last.is refl
-
-pub returns-in-Refused : goal.returns-in-Refused
-unfolding told answered
-returns-in-Refused c = c.refused.ensures ∙ rw c.in-Refused.is refl
+pub returns : goal.returns
+returns c = λ plain. with_next c.args.next c.from.result (told_token c.args.token) (c.from.ensures plain)

@@ -1,8 +1,8 @@
--- `entities::structure::led` meets its contract: each test that refuses the token is one that Making has, in its order, and behind them
--- the
--- begin group is written. Assumes nothing.
-use mathlib.Core.Path.{sym, ◌∙◌}
+-- `structure::led` meets its contract: each test that refuses the token is one that Making has, in its order, and behind them the begin
+-- group is written. Assumes nothing.
+use mathlib.Core.Path.{refl, sym, ◌∙◌}
 use native.Mathlib.Omega.{arith}
+use Rattle.std.proofs.lemmas.Result.{err_from_is_err_and}
 use Rattle.entities.specs.Stepping.{refused}
 use Rattle.structure.proofs.Leading.{not_led, too_deep, no_group, by_its_rules, no_rows, is_led, own_few}
 use Rattle.structure.proofs.led.Goals as goal
@@ -16,26 +16,27 @@ returns-then-not-brings c =
 pub returns-then-depth-ge-GROUPS : goal.returns-then-depth-ge-GROUPS
 returns-then-depth-ge-GROUPS c =
     let a = c.args in
-    refused 17 (λ z. omega arith) c.stops.ensures
+    refused _ refl
     (too_deep a.c a.s a.list.now a.groups.now a.place
     (sym c.brings.ensures ∙ c.if-not-brings.false) a.groups.now c.if-depth-ge-GROUPS.true)
 
 pub returns-then-room-lt6 : goal.returns-then-room-lt6
 returns-then-room-lt6 c =
     let a = c.args in
-    refused 18 (λ z. omega arith) c.stops-then-room-lt6.ensures
+    refused _ refl
     (no_group a.c a.s a.list.now a.groups.now a.place
     (sym c.brings.ensures ∙ c.if-not-brings.false) a.groups.now c.if-depth-ge-GROUPS.false
     c.if-room-lt6.true)
 
-pub returns-then-number-ne0 : goal.returns-then-number-ne0
-returns-then-number-ne0 c =
+pub returns-in_err-refused : goal.returns-in_err-refused
+returns-in_err-refused c =
     let a = c.args in
-    let number = c.refused-number in
-    refused number.result c.if-number-ne0.true c.stops-then-number-ne0.ensures
+    let p = err_from_is_err_and c.from_residual.result c.from_residual.ensures.1 in
+    rw (p.1, p.2)
+    (refused _ refl
     (by_its_rules a.c a.s a.list.now a.groups.now a.place
     (sym c.brings.ensures ∙ c.if-not-brings.false) a.groups.now c.if-depth-ge-GROUPS.false
-    c.ranges.c.fits c.requires.0 c.if-room-lt6.false number.result (sym number.ensures) c.if-number-ne0.true)
+    c.ranges.c.fits c.requires.0 c.if-room-lt6.false _ (sym c.in_err-refused.ensures)))
 
 pub overflow_mul-own : goal.overflow_mul-own
 overflow_mul-own c =
@@ -48,11 +49,10 @@ overflow_add-own c =
 pub returns-then-room-own : goal.returns-then-room-own
 returns-then-room-own c =
     let a = c.args in
-    let none = sym c.refused-number.ensures ∙ c.if-number-ne0.false in
-    refused 18 (λ z. omega arith) c.stops-then-room-own.ensures
+    refused _ refl
     (no_rows a.c a.s a.list.now a.groups.now a.place
     (sym c.brings.ensures ∙ c.if-not-brings.false) a.groups.now c.if-depth-ge-GROUPS.false
-    c.ranges.c.fits c.requires.0 c.if-room-lt6.false none (rw (← c.own.ensures) c.if-room-own.true))
+    c.ranges.c.fits c.requires.0 c.if-room-lt6.false (sym c.in_ok-refused.ensures) (rw (← c.own.ensures) c.if-room-own.true))
 
 pub returns : goal.returns
 returns c =
@@ -60,11 +60,11 @@ returns c =
     let p = c.requires in
     is_led a.c a.s a.list.now a.groups.now a.place
     (sym c.brings.ensures ∙ c.if-not-brings.false) c.if-depth-ge-GROUPS.false
-    (sym c.refused-number.ensures ∙ c.if-number-ne0.false)
+    (sym c.in_ok-refused.ensures)
     (omega (
       arith,
       p.3.held,
       c.own.ensures,
       c.if-room-own.false,
-    )) c.begin_group-state.result c.begin_group-state.new.list c.begin_group-state.new.groups
-    c.begin_group-state.ensures.0 c.begin_group-state.ensures.1 (omega (arith, c.begin_group-state.auto, p.3.array)) c.begin_group-state.ensures.2
+    )) c.begin_group.result c.begin_group.new.list c.begin_group.new.groups
+    c.begin_group.ensures.0 c.begin_group.ensures.1 (omega (arith, c.begin_group.auto, p.3.array)) c.begin_group.ensures.2

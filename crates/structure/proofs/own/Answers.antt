@@ -1,19 +1,17 @@
--- `entities::structure::own` meets its contract: each test is the definition's. Assumes nothing.
-use borrow.Author.Tests.{eq-eqb, ne_eqb}
+-- `structure::own` meets its contract: each test is the definition's. Assumes nothing.
+use native.Mathlib.Omega.{arith}
+use borrow.Author.Tests.{ne_eqb}
 use Rattle.entities.specs.Stepping.{own_behind}
 use Rattle.structure.proofs.own.Goals as goal
 
-pub returns-then-c-eq91 : goal.returns-then-c-eq91
+pub returns-in-91 : goal.returns-in-91
 unfolding own_behind
-returns-then-c-eq91 c =
-    rw (eq-eqb c.args.c 0x5B c.if-c-eq91.true)
+returns-in-91 c = rw c.in-91.is
 
-pub returns-then-c-eq44 : goal.returns-then-c-eq44
+pub returns-in-44 : goal.returns-in-44
 unfolding own_behind
-returns-then-c-eq44 c =
-    rw (ne_eqb c.args.c 0x5B c.if-c-eq91.false, eq-eqb c.args.c 0x2C c.if-c-eq44.true)
+returns-in-44 c = rw c.in-44.is
 
-pub returns : goal.returns
+pub returns-in_default : goal.returns-in_default
 unfolding own_behind
-returns c =
-    rw (ne_eqb c.args.c 0x5B c.if-c-eq91.false, ne_eqb c.args.c 0x2C c.if-c-eq44.false)
+returns-in_default c = rw (ne_eqb c.args.c 0x5B (λ e. omega arith), ne_eqb c.args.c 0x2C (λ e. omega arith))

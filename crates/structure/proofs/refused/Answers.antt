@@ -1,44 +1,31 @@
--- `entities::structure::refused` meets its contract: each test is the definition's. Assumes nothing.
+-- `structure::refused` meets its contract: each test is the definition's. Assumes nothing.
 use Prim.Native.Nat.{◌+◌}
-use borrow.Author.Tests.{eq-eqb, ne_eqb, le-leb, lt-leb}
+use native.Mathlib.Omega.{arith}
+use borrow.Author.Tests.{ne_eqb, le-leb, lt-leb}
 use Rattle.entities.specs.Stepping.{refused_behind}
 use Rattle.structure.proofs.refused.Goals as goal
 
-pub returns-then-c-eq41 : goal.returns-then-c-eq41
+pub returns-in-41 : goal.returns-in-41
 unfolding refused_behind
-returns-then-c-eq41 c =
-    rw (eq-eqb c.args.c 0x29 c.if-c-eq41.true)
+returns-in-41 c = rw c.in-41.is
 
-pub returns-then-c-eq59 : goal.returns-then-c-eq59
+pub returns-in-59 : goal.returns-in-59
 unfolding refused_behind
-returns-then-c-eq59 c =
-    rw (ne_eqb c.args.c 0x29 c.if-c-eq41.false, eq-eqb c.args.c 0x3B c.if-c-eq59.true)
+returns-in-59 c = rw c.in-59.is
 
-pub returns-then-depth-ge-GROUPS : goal.returns-then-depth-ge-GROUPS
+pub returns-in-40 : goal.returns-in-40
 unfolding refused_behind
-returns-then-depth-ge-GROUPS c =
+returns-in-40 c = rw (c.in-40.is, le-leb 64 (c.args.depth + 1) c.if-depth-ge-GROUPS.true)
+
+pub returns-in_default : goal.returns-in_default
+unfolding refused_behind
+returns-in_default c = rw (c.in-40.is, lt-leb 64 (c.args.depth + 1) c.if-depth-ge-GROUPS.false)
+
+pub returns-in_default-2 : goal.returns-in_default-2
+unfolding refused_behind
+returns-in_default-2 c =
     rw (
-      ne_eqb c.args.c 0x29 c.if-c-eq41.false,
-      ne_eqb c.args.c 0x3B c.if-c-eq59.false,
-      eq-eqb c.args.c 0x28 c.if-c-eq40.true,
-      le-leb 64 (c.args.depth + 1) c.if-depth-ge-GROUPS.true,
-    )
-
-pub returns-else-depth-ge-GROUPS : goal.returns-else-depth-ge-GROUPS
-unfolding refused_behind
-returns-else-depth-ge-GROUPS c =
-    rw (
-      ne_eqb c.args.c 0x29 c.if-c-eq41.false,
-      ne_eqb c.args.c 0x3B c.if-c-eq59.false,
-      eq-eqb c.args.c 0x28 c.if-c-eq40.true,
-      lt-leb 64 (c.args.depth + 1) c.if-depth-ge-GROUPS.false,
-    )
-
-pub returns-else-c-eq40 : goal.returns-else-c-eq40
-unfolding refused_behind
-returns-else-c-eq40 c =
-    rw (
-      ne_eqb c.args.c 0x29 c.if-c-eq41.false,
-      ne_eqb c.args.c 0x3B c.if-c-eq59.false,
-      ne_eqb c.args.c 0x28 c.if-c-eq40.false,
+      ne_eqb c.args.c 0x29 (λ e. omega arith),
+      ne_eqb c.args.c 0x3B (λ e. omega arith),
+      ne_eqb c.args.c 0x28 (λ e. omega arith),
     )

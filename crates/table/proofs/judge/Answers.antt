@@ -1,5 +1,5 @@
 -- `table::judge` meets its contract. The invariant: the last `k` rows are entered, and they pass. Assumes nothing.
-use mathlib.Core.Path.{◌≡◌, refl, sym, ◌∙◌}
+use mathlib.Core.Path.{◌≡◌, sym, ◌∙◌}
 use mathlib.Core.Bool.{and-false, false≢true}
 use native.Mathlib.Omega.{arith}
 use native.Mathlib.Numerals.{add-one}
@@ -24,20 +24,7 @@ returns-then-n-gt-OPERATIONS c =
 pub loop-k-init : goal.loop-k-init
 loop-k-init c =
     let t = c.args.table.now in
-    (none_entered t c.args.index.now c.requires.0 c.requires.1, pass_none t, omega arith)
-
-pub overflow_sub-n : goal.overflow_sub-n
-overflow_sub-n c = omega arith
-
-pub overflow_sub-n-in-loop-k : goal.overflow_sub-n-in-loop-k
-overflow_sub-n-in-loop-k c = omega arith
-
-pub overflow_mul-n : goal.overflow_mul-n
-overflow_mul-n c = omega arith
-
-pub operation_entered-requires : goal.operation_entered-requires
-operation_entered-requires c =
-    (c.loop-k.invariant.0, omega arith, omega arith, refl)
+    (none_entered t c.args.index.now c.requires.0 c.requires.1, pass_none t)
 
 pub returns-then-not-operation_entered : goal.returns-then-not-operation_entered
 returns-then-not-operation_entered c =
@@ -47,19 +34,13 @@ returns-then-not-operation_entered c =
     let stops = not_newly t k (omega arith) (sym r.0 ∙ c.if-not-operation_entered.true) in
     (sym (sound_tests limits t ∙ rw (stops, and-false)), λ u. absurd (false≢true u))
 
-pub overflow_add-k : goal.overflow_add-k
-overflow_add-k c = omega arith
-
-pub loop-k-smaller : goal.loop-k-smaller
-loop-k-smaller c = omega arith
-
 pub loop-k-preserved : goal.loop-k-preserved
 loop-k-preserved c =
     let t = c.args.table.now in
     let l = c.loop-k in
     let r = c.operation_entered.ensures in
     let good = c.if-not-operation_entered.false in
-    (r.1 good, rw (add-one l.k) (pass_next t l.k (omega arith) ∙ rw (sym r.0 ∙ good) l.invariant.1), omega arith)
+    (r.1 good, rw (add-one l.k) (pass_next t l.k (omega arith) ∙ rw (sym r.0 ∙ good) l.invariant.1))
 
 pub returns : goal.returns
 returns c =

@@ -1,13 +1,9 @@
 -- The invariant: the last `k` rows are entered, and they pass.
 use mathlib.Core.Path.{◌≡◌}
 use mathlib.Core.Bool.{true}
-use Prim.Native.Nat.{◌-◌, ◌≤◌}
 use Rattle.table.specs.Entered.{Entered}
 use Rattle.table.proofs.Last.{last_pass}
 use Rattle.table.proofs.judge.Given as goal
 
 abbrev pub invariant-loop-k : goal.invariant-loop-k
-invariant-loop-k l = Entered l.table l.index l.k × (last_pass l.table l.k ≡ true) × (l.k ≤ l.n)
-
-abbrev pub decreases-loop-k : goal.decreases-loop-k
-decreases-loop-k l = l.n - l.k
+invariant-loop-k l = Entered l.table l.index l.k × (last_pass l.table l.k ≡ true)

@@ -1,54 +1,53 @@
--- `table::operation_sound` meets its contract: each of the row's parts is judged where it stands in the table. Assumes nothing.
+-- `table::operation_sound` meets its contract: each of the row's parts is judged where it stands. Assumes nothing.
 use mathlib.Core.Path.{◌≡◌, sym, ◌∙◌}
-use mathlib.Core.Bool.{◌&&◌, and-true, and-false}
-use mathlib.Core.List.{List}
-use Prim.Native.Nat.{ℕ, ◌+◌}
+use mathlib.Core.Bool.{true, false, ◌&&◌, and_assoc, and-true, and-false}
 use native.Mathlib.Omega.{arith}
-use lib.Dec.{ltb}
 use lib.ListN.{get_or}
+use lib.Dec.{ltb}
 use borrow.Author.Tests.{lt-ltb, le-ltb}
-use Rattle.table.specs.Table.{field_sound, row_sound}
-use Rattle.table.specs.Entered.{row_from}
-use Rattle.table.proofs.Below.{part_below}
+use Rattle.chars.proofs.Cases.{both}
 use Rattle.table.proofs.Rows.{row_of_bytes}
+use Rattle.table.specs.Table.{field_sound}
 use Rattle.table.proofs.operation_sound.Goals as goal
-use Rattle.table.proofs.operation_sound.Goals.{After-shared_slice_known-1}
-
--- the row's parts, where they stand in the table
-module _ (c : After-shared_slice_known-1) where
-  abbrev s : List ℕ
-  s = c.args.s.now
-
-  abbrev at : ℕ
-  at = c.args.at
-
-  abbrev n : ℕ
-  n = get_or s at 0
-
-  parts :
-      row_sound (row_from s at)
-      ≡ ltb 0 n && part_below 1 s (at + 1 + n) (at + 256) && field_sound (at + 256) 8 32 s && field_sound (at + 265) 8 16 s
-  parts = row_of_bytes s at (λ k. omega (arith, c.shared_slice_known-1.given k))
+use Rattle.table.proofs.operation_sound.Goals.{then-entries_sound, else-entries_sound}
 
 pub returns-then-n-eq0 : goal.returns-then-n-eq0
 returns-then-n-eq0 c =
-    let none : n (goal.at.returns-then-n-eq0 c).After-shared_slice_known-1 ≡ 0 = omega arith in
-    sym (parts (goal.at.returns-then-n-eq0 c).After-shared_slice_known-1 ∙ rw (le-ltb 0 (n (goal.at.returns-then-n-eq0 c).After-shared_slice_known-1) (omega arith)))
+    let row = c.args.row.now in
+    sym (row_of_bytes row (λ k. omega (arith, c.type_inv.row k)) ∙ rw (le-ltb 0 (get_or row 0 0) (omega arith)))
 
-pub returns-then-not-entries_sound : goal.returns-then-not-entries_sound
-returns-then-not-entries_sound c =
-    let e = sym c.entries_sound.ensures ∙ c.if-not-entries_sound.true in
-    sym (parts (goal.at.returns-then-not-entries_sound c).After-shared_slice_known-1 ∙ rw (e, and-false))
+pub returns-then-entries_sound-2 : goal.returns-then-entries_sound-2
+returns-then-entries_sound-2 c =
+    let row = c.args.row.now in
+    let fields : c.if-entries_sound.value ≡ field_sound 256 8 32 row && field_sound 265 8 16 row =
+    elim c.if-entries_sound.branch [
+      | then-entries_sound w ↦
+          let takes : field_sound 256 8 32 row ≡ true = sym c.entries_sound.ensures ∙ w.if-entries_sound.true in
+          rw takes (w.value-is ∙ w.entries_sound-then-entries_sound.ensures)
+      | else-entries_sound w ↦
+          let takes : field_sound 256 8 32 row ≡ false = sym c.entries_sound.ensures ∙ w.if-entries_sound.false in
+          rw takes (w.value-is ∙ w.if-entries_sound.false)
+    ] in
+    let good : field_sound 256 8 32 row && field_sound 265 8 16 row ≡ true = sym fields ∙ c.if-entries_sound-2.true in
+    let both_good = both (field_sound 256 8 32 row) (field_sound 265 8 16 row) good in
+    let some : ltb 0 (get_or row 0 0) ≡ true = lt-ltb 0 (get_or row 0 0) (omega arith) in
+    rw c.from-n.ensures at c.zeros.ensures
+    ∙ sym (row_of_bytes row (λ k. omega (arith, c.type_inv.row k)) ∙ rw (some, both_good.0, both_good.1) (and-true _ ∙ and-true _))
 
-pub returns-then-not-entries_sound-2 : goal.returns-then-not-entries_sound-2
-returns-then-not-entries_sound-2 c =
-    let e = sym c.entries_sound-2.ensures ∙ c.if-not-entries_sound-2.true in
-    sym (parts (goal.at.returns-then-not-entries_sound-2 c).After-shared_slice_known-1 ∙ rw (e, and-false))
-
-pub returns : goal.returns
-returns c =
-    let e = sym c.entries_sound.ensures ∙ c.if-not-entries_sound.false in
-    let f = sym c.entries_sound-2.ensures ∙ c.if-not-entries_sound-2.false in
-    let r = c.size-n.ensures in
-    let some : n (goal.at.returns c).After-shared_slice_known-1 ≡ 0 → ⊥ = λ z. c.if-n-eq0.false (r.0 ∙ z) in
-    rw r.0 at c.zeros.ensures ∙ sym (parts (goal.at.returns c).After-shared_slice_known-1 ∙ rw (e, f, lt-ltb 0 (n (goal.at.returns c).After-shared_slice_known-1) (omega arith)) (and-true _ ∙ and-true _))
+pub returns-else-entries_sound-2 : goal.returns-else-entries_sound-2
+returns-else-entries_sound-2 c =
+    let row = c.args.row.now in
+    let fields : c.if-entries_sound.value ≡ field_sound 256 8 32 row && field_sound 265 8 16 row =
+    elim c.if-entries_sound.branch [
+      | then-entries_sound w ↦
+          let takes : field_sound 256 8 32 row ≡ true = sym c.entries_sound.ensures ∙ w.if-entries_sound.true in
+          rw takes (w.value-is ∙ w.entries_sound-then-entries_sound.ensures)
+      | else-entries_sound w ↦
+          let takes : field_sound 256 8 32 row ≡ false = sym c.entries_sound.ensures ∙ w.if-entries_sound.false in
+          rw takes (w.value-is ∙ w.if-entries_sound.false)
+    ] in
+    let bad : field_sound 256 8 32 row && field_sound 265 8 16 row ≡ false = sym fields ∙ c.if-entries_sound-2.false in
+    c.if-entries_sound-2.false
+    ∙ sym
+    (row_of_bytes row (λ k. omega (arith, c.type_inv.row k))
+    ∙ (and_assoc _ (field_sound 256 8 32 row) (field_sound 265 8 16 row) ∙ rw bad (and-false _)))

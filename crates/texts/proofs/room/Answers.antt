@@ -2,48 +2,55 @@
 -- counted
 -- with the token's. Assumes nothing.
 use native.Mathlib.Omega.{arith}
+use mathlib.Core.Path.{refl}
+use Rattle.entities.proofs.Modes.{so_bracketed}
 use Rattle.texts.proofs.Roomed.{full_bare, long-bare, roomy_bare, crowded_led, full-led, long-led, roomy-led}
 use Rattle.texts.proofs.room.Goals as goal
 
 pub returns-then-numbers-lt6 : goal.returns-then-numbers-lt6
 returns-then-numbers-lt6 c =
     let a = c.args in
-    full_bare a.s a.list.now a.text.now a.groups.now a.place a.size c.if-mode-ne1.true a.groups.now
-    c.if-numbers-lt6.true c.stops.result c.stops.ensures
-
-pub returns-then-bytes-size : goal.returns-then-bytes-size
-returns-then-bytes-size c =
-    let a = c.args in
-    long-bare a.s a.list.now a.text.now a.groups.now a.place a.size c.if-mode-ne1.true a.groups.now c.if-numbers-lt6.false c.if-bytes-size.true c.stops-then-bytes-size.result c.stops-then-bytes-size.ensures
-
-pub returns-then-mode-ne1 : goal.returns-then-mode-ne1
-returns-then-mode-ne1 c =
-    let a = c.args in
-    roomy_bare a.s a.list.now a.text.now a.groups.now a.place a.size c.if-mode-ne1.true c.if-numbers-lt6.false c.if-bytes-size.false c.requires.1.array
-
-pub returns-then-s-ge-GROUPS : goal.returns-then-s-ge-GROUPS
-returns-then-s-ge-GROUPS c =
-    let a = c.args in
-    crowded_led a.s a.list.now a.text.now a.groups.now a.place a.size c.if-mode-ne1.false a.groups.now c.if-s-ge-GROUPS.true c.stops-then-s-ge-GROUPS.result c.stops-then-s-ge-GROUPS.ensures
-
-pub returns-then-numbers-lt12 : goal.returns-then-numbers-lt12
-returns-then-numbers-lt12 c =
-    let a = c.args in
-    full-led a.s a.list.now a.text.now a.groups.now a.place a.size c.if-mode-ne1.false a.groups.now c.if-s-ge-GROUPS.false c.if-numbers-lt12.true c.stops-then-numbers-lt12.result c.stops-then-numbers-lt12.ensures
+    full_bare a.s a.list.now a.text.now a.groups.now a.place a.size (so_bracketed a.s.mode _ _ c.eq.ensures c.if-eq.false) a.groups.now
+    c.if-numbers-lt6.true _ refl
 
 pub returns-then-bytes-size-2 : goal.returns-then-bytes-size-2
 returns-then-bytes-size-2 c =
     let a = c.args in
-    long-led a.s a.list.now a.text.now a.groups.now a.place a.size c.if-mode-ne1.false a.groups.now c.if-s-ge-GROUPS.false c.if-numbers-lt12.false c.if-bytes-size-2.true c.stops-then-bytes-size-2.result
-    c.stops-then-bytes-size-2.ensures
+    long-bare a.s a.list.now a.text.now a.groups.now a.place a.size (so_bracketed a.s.mode _ _ c.eq.ensures c.if-eq.false) a.groups.now
+    c.if-numbers-lt6.false c.if-bytes-size-2.true _ refl
 
 pub returns : goal.returns
 returns c =
     let a = c.args in
-    roomy-led a.s a.list.now a.text.now a.groups.now a.place a.size c.if-mode-ne1.false c.begin_group-state.new.groups c.if-s-ge-GROUPS.false c.if-numbers-lt12.false c.if-bytes-size-2.false
-    c.begin_group-state.result c.begin_group-state.new.list c.begin_group-state.ensures.0 c.begin_group-state.ensures.1 (omega (
+    roomy_bare a.s a.list.now a.text.now a.groups.now a.place a.size (so_bracketed a.s.mode _ _ c.eq.ensures c.if-eq.false)
+    c.if-numbers-lt6.false c.if-bytes-size-2.false c.requires.1.array
+
+pub returns-then-s-ge-GROUPS : goal.returns-then-s-ge-GROUPS
+returns-then-s-ge-GROUPS c =
+    let a = c.args in
+    crowded_led a.s a.list.now a.text.now a.groups.now a.place a.size (so_bracketed a.s.mode _ _ c.eq.ensures c.if-eq.true) a.groups.now
+    c.if-s-ge-GROUPS.true _ refl
+
+pub returns-then-numbers-lt12 : goal.returns-then-numbers-lt12
+returns-then-numbers-lt12 c =
+    let a = c.args in
+    full-led a.s a.list.now a.text.now a.groups.now a.place a.size (so_bracketed a.s.mode _ _ c.eq.ensures c.if-eq.true) a.groups.now
+    c.if-s-ge-GROUPS.false c.if-numbers-lt12.true _ refl
+
+pub returns-then-bytes-size : goal.returns-then-bytes-size
+returns-then-bytes-size c =
+    let a = c.args in
+    long-led a.s a.list.now a.text.now a.groups.now a.place a.size (so_bracketed a.s.mode _ _ c.eq.ensures c.if-eq.true) a.groups.now
+    c.if-s-ge-GROUPS.false c.if-numbers-lt12.false c.if-bytes-size.true _ refl
+
+pub returns-then-eq : goal.returns-then-eq
+returns-then-eq c =
+    let a = c.args in
+    roomy-led a.s a.list.now a.text.now a.groups.now a.place a.size (so_bracketed a.s.mode _ _ c.eq.ensures c.if-eq.true)
+    c.begin_group.new.groups c.if-s-ge-GROUPS.false c.if-numbers-lt12.false c.if-bytes-size.false
+    c.begin_group.result c.begin_group.new.list c.begin_group.ensures.0 c.begin_group.ensures.1 (omega (
       arith,
-      c.begin_group-state.auto,
+      c.begin_group.auto,
       c.requires.1.array,
     ))
-    c.begin_group-state.ensures.2
+    c.begin_group.ensures.2

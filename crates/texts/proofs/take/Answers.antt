@@ -1,188 +1,103 @@
--- `texts::take` meets its contract: where there is no room nothing is written, and else its row, its text and its data, if there
--- is
--- some, are its entity behind the begin group that it brings. Assumes nothing.
-use mathlib.Core.Path.{◌≡◌, ◌∙◌, ap}
-use mathlib.Core.List.{◌++◌}
-use Prim.Native.Nat.{◌+◌, ◌-◌}
+-- `texts::take` meets its contract: where there is no room nothing is written, and else its text and its data, if there is some, make its
+-- row a whole entity. Assumes nothing.
+use mathlib.Core.Path.{◌≡◌, refl, ap}
+use Prim.Native.Nat.{◌+◌, ◌-◌, ◌≤◌}
 use native.Mathlib.Omega.{arith}
-use lib.Dec.{eqb}
 use lib.ListN.{length, get_or, take, drop}
-use Rattle.chars.specs.Stream.{stream_at, clean}
-use Rattle.texts.proofs.OneEntity.{cut_within, text_there, undone}
-use Rattle.texts.proofs.Worded.{cut_some}
-use Rattle.texts.proofs.Roomed.{room_found, stopped_room, held_room}
+use Rattle.std.proofs.lemmas.Result.{err_from_is_err_and}
+use Rattle.holding.specs.Kind.{kind_code}
+use Rattle.entities.proofs.Listing.{number_of_code}
+use Rattle.entities.proofs.Modes.{so_commanded}
+use Rattle.texts.proofs.OneEntity.{cut_within, undone}
+use Rattle.scan.specs.Told.{sort_code}
+use Rattle.texts.proofs.Worded.{few, cut_some}
+use Rattle.texts.proofs.Roomed.{stopped_held, whole_held}
 use Rattle.texts.proofs.take.Goals as goal
-use Rattle.texts.proofs.take.Goals.{then-bytes-ne0, else-bytes-ne0}
 
-pub overflow_sub-size : goal.overflow_sub-size
-overflow_sub-size c =
+pub slice_bounds-bytes-count : goal.slice_bounds-bytes-count
+slice_bounds-bytes-count c =
     let a = c.args in
     let p = c.requires in
-    let b = get_or a.draft.now a.p.place 0 in
-    let cut = c.sign-cut in
-    let kinded = c.kind-k in
-    cut_within kinded.result cut.result a.p.prefix cut.ensures.0 cut.ensures.1
-    (rw kinded.ensures.0 (cut_some a.p.sort b (eqb a.s.mode 2) a.p.prefix p.0 (λ e. (p.2 e).0)))
+    let cut = c.sign in
+    let within : cut.result ≤ a.w.prefix =
+    cut_within (kind_code c.kind-k.result) cut.result a.w.prefix cut.ensures.0 cut.ensures.1
+    (rw c.kind-k.ensures (cut_some (sort_code a.w.sort) (get_or a.draft.now a.w.place 0) c.eq.result a.w.prefix (few a.w.sort)
+    (λ e. (p.1 e).0))) in
+    omega arith
 
-pub returns-then-number-ne0 : goal.returns-then-number-ne0
-returns-then-number-ne0 c =
+pub slice_bounds-bytes-start : goal.slice_bounds-bytes-start
+slice_bounds-bytes-start c =
     let a = c.args in
     let p = c.requires in
-    let b = get_or a.draft.now a.p.place 0 in
-    let cut = c.sign-cut in
-    let kinded = c.kind-k in
-    stopped_room a.draft.now a.s a.list.now a.text.now a.groups.now a.p.sort a.p.place a.p.prefix a.p.from
-    a.p.bytes cut.result kinded.result p.0 p.7 p.2 p.1 kinded.ensures.0 cut.ensures.0 p.8 c.room-b.result
-    c.stops.result c.room-b.new.list c.room-b.new.groups c.room-b.ensures c.if-number-ne0.true
-    c.stops.ensures
+    let cut = c.sign in
+    let within : cut.result ≤ a.w.prefix =
+    cut_within (kind_code c.kind-k.result) cut.result a.w.prefix cut.ensures.0 cut.ensures.1
+    (rw c.kind-k.ensures (cut_some (sort_code a.w.sort) (get_or a.draft.now a.w.place 0) c.eq.result a.w.prefix (few a.w.sort)
+    (λ e. (p.1 e).0))) in
+    omega arith
 
-pub overflow_mul-held : goal.overflow_mul-held
-overflow_mul-held c =
+pub returns-in_err-state : goal.returns-in_err-state
+returns-in_err-state c =
     let a = c.args in
     let p = c.requires in
-    let b = get_or a.draft.now a.p.place 0 in
-    let cut = c.sign-cut in
-    let kinded = c.kind-k in
-    let f =
-    room_found a.s a.list.now a.text.now a.groups.now a.p.place (a.p.prefix - cut.result + a.p.bytes) c.room-b.result c.room-b.new.list
-    c.room-b.new.groups c.room-b.ensures c.if-number-ne0.false in
-    omega (arith, f.held, f.room, p.8.held, c.well_formed.1.0)
+    let cut = c.sign.result in
+    let n = a.w.place + a.w.prefix - (a.w.place + cut) in
+    let as-long : n ≡ a.w.prefix - cut = omega arith in
+    let raw = take n (drop (a.w.place + cut) a.draft.now) in
+    let out = err_from_is_err_and c.from_residual.result c.from_residual.ensures.1 in
+    rw (out.1, out.2)
+    (stopped_held a.draft.now a.s a.list.now a.text.now a.groups.now (sort_code a.w.sort) a.w.place a.w.prefix a.w.from a.w.length cut
+    (kind_code c.kind-k.result) (few a.w.sort) p.6 p.1 p.0 (rw (so_commanded a.s.mode _ _ c.eq.ensures refl) c.kind-k.ensures)
+    c.sign.ensures.0 p.7
+    raw (rw as-long) _ (ap (λ k. record {
+      kind = k;
+      place = a.w.place;
+      text_at = a.s.text;
+      text_len = length raw;
+      data_len = a.w.length;
+      count = 0;
+    }) c.code.ensures) _ c.held.new.list c.held.new.groups c.in_err-state.ensures)
 
-pub row-requires : goal.row-requires
-row-requires c =
+pub returns-then-w-ne0 : goal.returns-then-w-ne0
+returns-then-w-ne0 c =
     let a = c.args in
     let p = c.requires in
-    let b = get_or a.draft.now a.p.place 0 in
-    let cut = c.sign-cut in
-    let kinded = c.kind-k in
-    let f =
-    room_found a.s a.list.now a.text.now a.groups.now a.p.place (a.p.prefix - cut.result + a.p.bytes) c.room-b.result c.room-b.new.list
-    c.room-b.new.groups c.room-b.ensures c.if-number-ne0.false in
-    omega (arith, f.held, f.room, c.room-b.auto, p.8.held)
+    let cut = c.sign.result in
+    let n = a.w.place + a.w.prefix - (a.w.place + cut) in
+    let as-long : n ≡ a.w.prefix - cut = omega arith in
+    let raw = take n (drop (a.w.place + cut) a.draft.now) in
+    whole_held a.draft.now a.s a.list.now a.text.now a.groups.now (sort_code a.w.sort) a.w.place a.w.prefix a.w.from a.w.length cut
+    (kind_code c.kind-k.result) (few a.w.sort) p.6 p.1 p.0 (rw (so_commanded a.s.mode _ _ c.eq.ensures refl) c.kind-k.ensures)
+    c.sign.ensures.0 p.7
+    raw (rw as-long) _ (ap (λ k. record {
+      kind = k;
+      place = a.w.place;
+      text_at = a.s.text;
+      text_len = length raw;
+      data_len = a.w.length;
+      count = 0;
+    }) c.code.ensures) c.in_ok-state.state c.held.new.list c.held.new.groups c.as_it_stands.new.text c.fill.new.text
+    c.in_ok-state.ensures p.3 p.4 (number_of_code c.kind-k.result) c.as_it_stands.ensures c.fill.ensures
 
-pub as_it_stands-requires : goal.as_it_stands-requires
-as_it_stands-requires c =
+pub returns-else-w-ne0 : goal.returns-else-w-ne0
+returns-else-w-ne0 c =
     let a = c.args in
     let p = c.requires in
-    let b = get_or a.draft.now a.p.place 0 in
-    let cut = c.sign-cut in
-    let kinded = c.kind-k in
-    let f =
-    room_found a.s a.list.now a.text.now a.groups.now a.p.place (a.p.prefix - cut.result + a.p.bytes) c.room-b.result c.room-b.new.list
-    c.room-b.new.groups c.room-b.ensures c.if-number-ne0.false in (
-      omega (arith, f.free, p.8.used),
-      text_there a.draft.now a.list.now a.text.now a.groups.now a.s 0 kinded.result a.p.place a.p.prefix
-          a.p.from a.p.bytes cut.result p.7 cut.ensures.0,
-    )
-
-pub overflow_sub-raw : goal.overflow_sub-raw
-overflow_sub-raw c =
-    omega (
-      arith,
-      c.requires.6,
-    )
-
-pub overflow_sub-raw-then-bytes-ne0 : goal.overflow_sub-raw-then-bytes-ne0
-overflow_sub-raw-then-bytes-ne0 c =
-    omega (
-      arith,
-      c.requires.6,
-    )
-
-pub overflow_add-used : goal.overflow_add-used
-overflow_add-used c =
-    let a = c.args in
-    let p = c.requires in
-    let b = get_or a.draft.now a.p.place 0 in
-    let cut = c.sign-cut in
-    let kinded = c.kind-k in
-    let f =
-    room_found a.s a.list.now a.text.now a.groups.now a.p.place (a.p.prefix - cut.result + a.p.bytes) c.room-b.result c.room-b.new.list
-    c.room-b.new.groups c.room-b.ensures c.if-number-ne0.false in
-    omega (arith, f.free, p.8.used, c.well_formed.1.1.0)
-
-pub fill-requires : goal.fill-requires
-fill-requires c =
-    let a = c.args in
-    let p = c.requires in
-    let b = get_or a.draft.now a.p.place 0 in
-    let cut = c.sign-cut in
-    let kinded = c.kind-k in
-    let f =
-    room_found a.s a.list.now a.text.now a.groups.now a.p.place (a.p.prefix - cut.result + a.p.bytes) c.room-b.result c.room-b.new.list
-    c.room-b.new.groups c.room-b.ensures c.if-number-ne0.false in (
-      omega (arith, f.free, p.8.used, c.as_it_stands.auto),
-      p.7.string_long,
-      p.9,
-      omega arith,
-    )
-
-pub overflow_add-held : goal.overflow_add-held
-overflow_add-held c =
-    let a = c.args in
-    let p = c.requires in
-    let b = get_or a.draft.now a.p.place 0 in
-    let cut = c.sign-cut in
-    let kinded = c.kind-k in
-    let f =
-    room_found a.s a.list.now a.text.now a.groups.now a.p.place (a.p.prefix - cut.result + a.p.bytes) c.room-b.result c.room-b.new.list
-    c.room-b.new.groups c.room-b.ensures c.if-number-ne0.false in
-    omega (arith, f.held, f.room, p.8.held, c.well_formed.1.0)
-
-pub overflow_add-used-2 : goal.overflow_add-used-2
-overflow_add-used-2 c =
-    let a = c.args in
-    let p = c.requires in
-    let b = get_or a.draft.now a.p.place 0 in
-    let cut = c.sign-cut in
-    let kinded = c.kind-k in
-    let f =
-    room_found a.s a.list.now a.text.now a.groups.now a.p.place (a.p.prefix - cut.result + a.p.bytes) c.room-b.result c.room-b.new.list
-    c.room-b.new.groups c.room-b.ensures c.if-number-ne0.false in
-    omega (arith, f.free, p.8.used, c.well_formed.1.1.0)
-
-pub overflow_add-used-3 : goal.overflow_add-used-3
-overflow_add-used-3 c =
-    let a = c.args in
-    let p = c.requires in
-    let b = get_or a.draft.now a.p.place 0 in
-    let cut = c.sign-cut in
-    let kinded = c.kind-k in
-    let f =
-    room_found a.s a.list.now a.text.now a.groups.now a.p.place (a.p.prefix - cut.result + a.p.bytes) c.room-b.result c.room-b.new.list
-    c.room-b.new.groups c.room-b.ensures c.if-number-ne0.false in
-    omega (arith, f.free, p.8.used, c.well_formed.1.1.0)
-
-pub shape_of-text : goal.shape_of-text
-shape_of-text c =
-    let after_text = c.as_it_stands in
-    elim c.if-bytes-ne0.branch [
-      | then-bytes-ne0 w ↦ omega (arith, ap length w.text-is, w.fill.auto, after_text.auto)
-      | else-bytes-ne0 w ↦ omega (arith, ap length w.text-is, after_text.auto)
-    ]
-
-pub returns : goal.returns
-returns c =
-    let a = c.args in
-    let p = c.requires in
-    let b = get_or a.draft.now a.p.place 0 in
-    let cut = c.sign-cut in
-    let kinded = c.kind-k in
-    let f =
-    room_found a.s a.list.now a.text.now a.groups.now a.p.place (a.p.prefix - cut.result + a.p.bytes) c.room-b.result c.room-b.new.list
-    c.room-b.new.groups c.room-b.ensures c.if-number-ne0.false in
-    let middle = c.as_it_stands.new.text in
-    let size = a.p.prefix - cut.result in
-    let texted :
-    c.if-bytes-ne0.text
-    ≡ take (a.s.text + size) middle
-    ++ (clean a.p.bytes (stream_at a.draft.now a.p.from) ++ drop (a.s.text + size + a.p.bytes) middle) =
-    elim c.if-bytes-ne0.branch [
-      | then-bytes-ne0 w ↦ w.text-is ∙ w.fill.ensures
-      | else-bytes-ne0 w ↦ w.text-is ∙ undone a.draft.now middle (a.s.text + size) a.p.from a.p.bytes w.if-bytes-ne0.false
-    ] in
-    held_room a.draft.now a.s a.list.now a.text.now a.groups.now a.p.sort a.p.place a.p.prefix a.p.from
-    a.p.bytes cut.result kinded.result p.0 p.7 p.2 p.1 kinded.ensures.0 cut.ensures.0 p.8 c.room-b.result
-    c.goes.result c.room-b.new.list c.room-b.new.groups c.row.new.list middle c.if-bytes-ne0.text f
-    p.4 p.5 (omega (arith, kinded.ensures.1)) (omega (arith, kinded.ensures.2)) c.row.ensures c.as_it_stands.ensures texted
-    c.goes.ensures
+    let cut = c.sign.result in
+    let n = a.w.place + a.w.prefix - (a.w.place + cut) in
+    let as-long : n ≡ a.w.prefix - cut = omega arith in
+    let raw = take n (drop (a.w.place + cut) a.draft.now) in
+    let text = c.as_it_stands.new.text in
+    whole_held a.draft.now a.s a.list.now a.text.now a.groups.now (sort_code a.w.sort) a.w.place a.w.prefix a.w.from a.w.length cut
+    (kind_code c.kind-k.result) (few a.w.sort) p.6 p.1 p.0 (rw (so_commanded a.s.mode _ _ c.eq.ensures refl) c.kind-k.ensures)
+    c.sign.ensures.0 p.7
+    raw (rw as-long) _ (ap (λ k. record {
+      kind = k;
+      place = a.w.place;
+      text_at = a.s.text;
+      text_len = length raw;
+      data_len = a.w.length;
+      count = 0;
+    }) c.code.ensures) c.in_ok-state.state c.held.new.list c.held.new.groups text text
+    c.in_ok-state.ensures p.3 p.4 (number_of_code c.kind-k.result) c.as_it_stands.ensures
+    (undone a.draft.now text (a.s.text + length raw) a.w.from a.w.length c.if-w-ne0.false)

@@ -11,9 +11,3 @@ returns-then-draft-at c =
     let draft = c.args.draft.now in
     let at = c.args.at in
     (rw (at_end draft (length draft) (omega arith), at_end draft at c.if-draft-at.true), omega arith)
-
-pub blanks-requires : goal.blanks-requires
-blanks-requires c = omega arith
-
-pub returns : goal.returns
-returns c = (c.blanks.ensures.0, c.blanks.ensures.2)

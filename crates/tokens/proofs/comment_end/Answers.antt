@@ -11,9 +11,3 @@ returns-then-draft-at c =
     let draft = c.args.draft.now in
     let at = c.args.at in
     (rw (at_end draft (length draft) (omega arith), at_end draft at c.if-draft-at.true), omega arith, λ h. h)
-
-pub comment-requires : goal.comment-requires
-comment-requires c = omega arith
-
-pub returns : goal.returns
-returns c = (c.comment.ensures.0, c.comment.ensures.2, λ h. c.comment.ensures.1)

@@ -6,13 +6,13 @@ use lib.ListN.{length}
 use Rattle.chars.specs.Limits.{limits}
 use Rattle.chars.specs.Stream.{stream_at}
 use Rattle.tokens.specs.Tokens.{tokens, first, string}
-use Rattle.tokens.specs.Runs.{opened_as}
+use Rattle.tokens.specs.Told.{told_opened}
 use Rattle.tokens.proofs.string.Given as goal
 
 abbrev pub invariant-loop-number : goal.invariant-loop-number
 invariant-loop-number l =
-    (first (tokens limits (string (opened_as l.curly l.place l.prefix l.from) l.n l.level l.odd) (stream_at l.draft l.i))
-    ≡ first (tokens limits (string (opened_as l.curly l.place l.prefix l.from) 0 1 false) (stream_at l.draft l.from)))
+    (first (tokens limits (string (told_opened l.o) l.n l.level l.odd) (stream_at l.draft l.i))
+    ≡ first (tokens limits (string (told_opened l.o) 0 1 false) (stream_at l.draft l.o.from)))
     × (l.i ≤ length l.draft)
     × (l.n ≤ 4096)
     × (1 ≤ l.level)

@@ -10,27 +10,29 @@ use Rattle.tokens.proofs.Words.{at_length}
 use Rattle.tokens.proofs.Starts.{passed, twice}
 use Rattle.tokens.proofs.token_at.Goals as goal
 
-pub returns-then-draft-at : goal.returns-then-draft-at
+pub returns-then-draft-at-clause-told : goal.returns-then-draft-at-clause-told
 unfolding token_at
-returns-then-draft-at c = let a = c.args in sym (at_length limits a.draft.now a.at between c.if-draft-at.true)
+returns-then-draft-at-clause-told c =
+    let a = c.args in
+    rw c.at.ensures (sym (at_length limits a.draft.now a.at between c.if-draft-at.true))
 
-pub returns-then-draft-i : goal.returns-then-draft-i
+pub returns-then-draft-i-clause-told : goal.returns-then-draft-i-clause-told
 unfolding token_at
-returns-then-draft-i c =
+returns-then-draft-i-clause-told c =
     let a = c.args in
     let i = c.skip-i.result in
     let same = passed limits false (stream_at a.draft.now a.at) ∙ ap (tokens limits between) (sym c.skip-i.ensures.0) in
-    sym (at_length limits a.draft.now i between c.if-draft-i.true) ∙ sym (ap first same)
+    rw c.at-then-draft-i.ensures (sym (at_length limits a.draft.now i between c.if-draft-i.true) ∙ sym (ap first same))
 
 pub token_from-requires : goal.token_from-requires
 token_from-requires c =
     let e = c.skip-i.ensures.0 in
     (omega arith, e ∙ sym (ap (past_all false) e ∙ twice false _))
 
-pub returns : goal.returns
+pub returns-clause-told : goal.returns-clause-told
 unfolding token_at
-returns c =
+returns-clause-told c =
     let a = c.args in
     let same = passed limits false (stream_at a.draft.now a.at) ∙ ap (tokens limits between)
     (sym c.skip-i.ensures.0) in
-    c.token_from.ensures ∙ sym (ap first same)
+    c.token_from.ensures.told ∙ sym (ap first same)

@@ -4,12 +4,12 @@ use mathlib.Core.Bool.{and-true}
 use Rattle.chars.specs.Rfc3629.{utf8_2}
 use Rattle.wide.proofs.two.Goals as goal
 
-pub returns-then-not-within : goal.returns-then-not-within
+pub returns-then-within : goal.returns-then-within
 unfolding utf8_2
-returns-then-not-within c = let first = sym c.within.ensures ∙ c.if-not-within.true in simp first
+returns-then-within c =
+    let first = sym c.within.ensures ∙ c.if-within.true in
+    simp (first, and-true) c.within-then-within.ensures
 
-pub returns : goal.returns
+pub returns-else-within : goal.returns-else-within
 unfolding utf8_2
-returns c =
-    let first = sym c.within.ensures ∙ c.if-not-within.false in
-    simp (first, and-true) c.within-2.ensures
+returns-else-within c = let first = sym c.within.ensures ∙ c.if-within.false in rw first c.if-within.false

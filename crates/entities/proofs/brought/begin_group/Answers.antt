@@ -7,6 +7,6 @@ pub returns : goal.returns
 returns c =
     let a = c.args in (
       refl,
-      group_row a.list.now a.s.entities a.s.text a.place c.row.new.list c.row.ensures,
+      group_row a.list.now a.s.entities a.s.text a.place c.bare-row.result c.write.new.list c.write.ensures c.bare-row.ensures,
       c.push.ensures,
     )

@@ -1,10 +1,11 @@
 -- `entities::metacommands::metacommand_ends` meets its contract: one entity, and the metacommand is over. Assumes nothing.
+use Rattle.holding.specs.Kind.{kind_code}
 use Rattle.entities.proofs.Rules.{command_ends}
 use Rattle.entities.proofs.metacommands.metacommand_ends.Goals as goal
 
 pub returns : goal.returns
+unfolding kind_code
 returns c =
     let a = c.args in
     let p = c.requires in
-    command_ends a.s a.list.now a.groups.now a.place c.one.result c.one.new.list
-    p.2 p.0 c.one.ensures
+    command_ends a.s a.list.now a.groups.now a.place p.2 p.0 c.one.ensures

@@ -1,33 +1,31 @@
--- `runs::blank::white` meets its contract: antt computes the definition at SP and at LF, and both sides at every other byte. Assumes
--- nothing.
+-- `runs::blank::white` meets its contract: antt computes the definition at each byte that the code lists, and at every other. The code
+-- tells bytes that follow each other by their ends. Assumes nothing.
 use mathlib.Core.Path.{refl, sym, ap}
-use mathlib.Core.Bool.{not}
-use mathlib.Core.List.{List, ◌∷◌, []}
-use Prim.Native.Nat.{ℕ}
-use lib.Dec.{eqb}
+use mathlib.Core.Bool.{not, ◌&&◌}
+use native.Mathlib.Omega.{arith}
+use lib.Dec.{eqb, ltb, leb}
 use borrow.Author.Rules.{rules}
-use Rattle.chars.specs.Choice.{among}
+use borrow.Author.Tests.{le-leb, lt-ltb, ne_eqb}
 use Rattle.tokens.specs.Sorts.{white}
-use Rattle.runs.proofs.Bytes.{agree, not_among}
+use Rattle.runs.proofs.Bytes.{every, never}
 use Rattle.runs.proofs.blank.white.Goals as goal
 
-pub returns-then-b-eq32 : goal.returns-then-b-eq32
+pub returns-in_default : goal.returns-in_default
 unfolding white
-returns-then-b-eq32 c = ap white (sym c.if-b-eq32.true)
+returns-in_default c = never white (λ k. ltb k 9) refl c.args.b (search rules) (lt-ltb c.args.b 9 (omega arith))
 
-pub returns-then-b-eq10 : goal.returns-then-b-eq10
+pub returns-in_default-2 : goal.returns-in_default-2
 unfolding white
-returns-then-b-eq10 c = ap white (sym c.if-b-eq10.true)
-
-pub returns : goal.returns
-unfolding white
-returns c =
+returns-in_default-2 c =
     let b = c.args.b in
-    let told : List ℕ = 0x20 ∷ 0x0A ∷ [] in
-    agree (λ k. eqb k 0x09) white (λ k. not (among k told)) refl b (search rules) (not_among told b (
-      c.if-b-eq32.false,
-      (
-        c.if-b-eq10.false,
-        tt,
-      ),
-    ))
+    never white (λ k. leb 11 k && not (eqb k 32)) refl b (search rules) (rw (le-leb 11 b (omega arith), ne_eqb b 32 (omega arith)) refl)
+
+pub returns-in-32 : goal.returns-in-32
+unfolding white
+returns-in-32 c = ap white (sym c.in-32.is)
+
+pub returns-in-32-2 : goal.returns-in-32-2
+unfolding white
+returns-in-32-2 c =
+    let b = c.args.b in
+    every white (λ k. leb 9 k && ltb k 11) refl b (search rules) (rw (le-leb 9 b (omega arith), lt-ltb b 11 (omega arith)) refl)

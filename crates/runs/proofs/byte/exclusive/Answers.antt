@@ -5,6 +5,7 @@ use mathlib.Core.Bool.{◌&&◌}
 use mathlib.Core.List.{List, [], ◌∷◌}
 use Prim.Native.Nat.{ℕ}
 use lib.Dec.{ltb, leb}
+use native.Mathlib.Omega.{arith}
 use mir.Val.{has_key}
 use borrow.Author.Rules.{rules}
 use borrow.Author.Tests.{le-leb, lt-ltb}
@@ -19,21 +20,21 @@ pub returns-in_default : goal.returns-in_default
 unfolding exclusive
 returns-in_default c =
     let b = c.args.b in
-    never exclusive (λ k. ltb k 9) refl b (search rules) (lt-ltb b 9 c.in_default.if-b-lt9-own.true)
+    never exclusive (λ k. ltb k 9) refl b (search rules) (lt-ltb b 9 (omega arith))
 
 pub returns-in_default-2 : goal.returns-in_default-2
 unfolding exclusive
 returns-in_default-2 c =
     let b = c.args.b in
     never exclusive (λ k. leb 11 k && (ltb k 40 && rest (keys ∷ []) k)) refl b (search rules)
-    (rw (le-leb 11 b c.in_default.if-b-lt11-own.false, lt-ltb b 40 c.in_default.if-b-lt40-own.true) (in_rest (keys ∷ []) b c.in_default.in_default-own.rest))
+    (rw (le-leb 11 b (omega arith), lt-ltb b 40 (omega arith)) (in_rest (keys ∷ []) b c.in_default.in_default-own.rest))
 
 pub returns-in_default-3 : goal.returns-in_default-3
 unfolding exclusive
 returns-in_default-3 c =
     let b = c.args.b in
     never exclusive (λ k. leb 42 k && rest (keys ∷ []) k) refl b (search rules)
-    (rw (le-leb 42 b c.in_default.if-b-lt42-own.false) (in_rest (keys ∷ []) b c.in_default.in_default-own.rest))
+    (rw (le-leb 42 b (omega arith)) (in_rest (keys ∷ []) b c.in_default.in_default-own.rest))
 
 pub returns-in-9 : goal.returns-in-9
 unfolding exclusive
@@ -46,11 +47,11 @@ unfolding exclusive
 returns-in-9-2 c =
     let b = c.args.b in
     every exclusive (λ k. leb 9 k && ltb k 11) refl b (search rules)
-    (rw (le-leb 9 b c.in-9.if-b-lt9-own.false, lt-ltb b 11 c.in-9.if-b-lt11-own.true))
+    (rw (le-leb 9 b (omega arith), lt-ltb b 11 (omega arith)))
 
 pub returns-in-9-3 : goal.returns-in-9-3
 unfolding exclusive
 returns-in-9-3 c =
     let b = c.args.b in
     every exclusive (λ k. leb 40 k && ltb k 42) refl b (search rules)
-    (rw (le-leb 40 b c.in-9.if-b-lt40-own.false, lt-ltb b 42 c.in-9.if-b-lt42-own.true))
+    (rw (le-leb 40 b (omega arith), lt-ltb b 42 (omega arith)))

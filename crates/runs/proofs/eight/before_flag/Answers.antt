@@ -5,9 +5,6 @@ use lib.Count.{count_trailing_zeros, trailing_le}
 use Rattle.runs.proofs.Flags.{trailing_bytes, first_byte}
 use Rattle.runs.proofs.eight.before_flag.Goals as goal
 
-pub overflow_cast-result : goal.overflow_cast-result
-overflow_cast-result c = omega (arith, trailing_le 64 c.args.flags)
-
 pub returns : goal.returns
 returns c =
     let n = c.args.flags in

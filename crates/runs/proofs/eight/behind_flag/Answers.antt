@@ -5,9 +5,6 @@ use lib.Bits.{and_le_r}
 use Rattle.runs.proofs.Flags.{but_first}
 use Rattle.runs.proofs.eight.behind_flag.Goals as goal
 
-pub overflow_sub-result : goal.overflow_sub-result
-overflow_sub-result c = omega arith
-
 pub returns : goal.returns
 returns c =
     let n = c.args.flags in

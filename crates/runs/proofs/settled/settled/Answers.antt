@@ -1,14 +1,13 @@
--- `runs::settled::settled` meets its contract: antt computes the definition at CR, and of any other byte only the second test is left.
--- Assumes nothing.
-use mathlib.Core.Path.{sym, ap}
+-- `runs::settled::settled` meets its contract: the tests of the code are those of the definition. Assumes nothing.
+use mathlib.Core.Path.{refl}
 use borrow.Author.Tests.{ne_eqb}
 use Rattle.runs.specs.Bytes.{settled}
 use Rattle.runs.proofs.settled.settled.Goals as goal
 
-pub returns-then-b-eq13 : goal.returns-then-b-eq13
+pub returns-then-b-ne13 : goal.returns-then-b-ne13
 unfolding settled
-returns-then-b-eq13 c = ap settled (sym c.if-b-eq13.true)
+returns-then-b-ne13 c = simp (ne_eqb c.args.b 0x0D c.if-b-ne13.true)
 
-pub returns : goal.returns
+pub returns-else-b-ne13 : goal.returns-else-b-ne13
 unfolding settled
-returns c = simp (ne_eqb c.args.b 0x0D c.if-b-eq13.false)
+returns-else-b-ne13 c = rw c.if-b-ne13.false refl

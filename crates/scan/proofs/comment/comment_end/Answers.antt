@@ -5,18 +5,9 @@ use Prim.Native.Nat.{◌+◌, ◌<◌}
 use native.Mathlib.Omega.{arith}
 use lib.ListN.{get_or}
 use Rattle.chars.proofs.Streams.{plain}
-use Rattle.scan.proofs.Comments.{Inside, entered, ended, one_byte, run, foreign, forth}
+use Rattle.scan.proofs.Comments.{Inside, ended, one_byte, run, foreign, forth}
 use Rattle.scan.proofs.comment.comment_end.Goals as goal
 use Rattle.scan.proofs.comment.comment_end.Goals.{After-past_remark-i}
-
-pub loop-at-init : goal.loop-at-init
-loop-at-init c = entered _ _ c.requires
-
-pub past_remark-i-requires : goal.past_remark-i-requires
-past_remark-i-requires c = c.loop-at.invariant.there
-
-pub returns-then-draft-i : goal.returns-then-draft-i
-returns-then-draft-i c = λ h. absurd (omega arith)
 
 -- behind the bytes that comments are mostly made of, inside the comment still
 here :
@@ -28,7 +19,6 @@ here c =
 
 pub returns-then-b-eq10 : goal.returns-then-b-eq10
 returns-then-b-eq10 c =
-    λ h.
     let a = c.args in
     let i = c.past_remark-i.result in
     let b = get_or a.draft.now i 0 in
@@ -37,19 +27,9 @@ returns-then-b-eq10 c =
 
 pub returns-then-is_line : goal.returns-then-is_line
 returns-then-is_line c =
-    λ h.
     let a = c.args in
     let i = c.past_remark-i.result in
     ended a.draft.now a.at i 0x0A (i + 2) (here (goal.at.returns-then-is_line c).After-past_remark-i) (c.is_line.ensures.0 c.if-is_line.true).1 refl
-
-pub returns-then-b-eq13 : goal.returns-then-b-eq13
-returns-then-b-eq13 c = λ h. absurd (omega arith)
-
-pub returns-then-b-eq0 : goal.returns-then-b-eq0
-returns-then-b-eq0 c = λ h. absurd (omega arith)
-
-pub loop-at-smaller-then-b-lt128 : goal.loop-at-smaller-then-b-lt128
-loop-at-smaller-then-b-lt128 c = omega (arith, c.past_remark-i.ensures.on)
 
 pub loop-at-preserved-then-b-lt128 : goal.loop-at-preserved-then-b-lt128
 loop-at-preserved-then-b-lt128 c =
@@ -58,9 +38,6 @@ loop-at-preserved-then-b-lt128 c =
     let there : 0 < get_or a.draft.now i 0 = omega (arith, c.if-b-eq0.false) in
     one_byte a.draft.now a.at i (here (goal.at.loop-at-preserved-then-b-lt128 c).After-past_remark-i) (omega arith) there (omega arith) c.if-b-eq13.false
     c.if-b-eq10.false
-
-pub returns-then-from-i-2 : goal.returns-then-from-i-2
-returns-then-from-i-2 c = λ h. absurd (omega arith)
 
 pub loop-at-smaller-else-from-i-2 : goal.loop-at-smaller-else-from-i-2
 loop-at-smaller-else-from-i-2 c =

@@ -1,46 +1,51 @@
 -- `scan::word::among_last` meets its contract: the token goes on as far as bytes are passed over, and the next says what it does. Assumes
 -- nothing.
-use mathlib.Core.Path.{◌≡◌, refl, sym, ◌∙◌}
-use Prim.Native.Nat.{ℕ, ◌-◌, ◌<◌, ◌≤◌}
+use mathlib.Core.Path.{sym}
 use native.Mathlib.Omega.{arith}
-use lib.ListN.{length, get_or}
-use Rattle.runs.specs.Bytes.{ends_of}
-use Rattle.scan.specs.Found.{Stops}
+use Rattle.std.proofs.lemmas.Option.{IfSome_then}
+use Rattle.runs.specs.Bytes.{goes_on}
+use Rattle.runs.specs.Codes.{ends_code}
+use Rattle.scan.specs.Opens.{how_code}
 use Rattle.scan.proofs.word.among_last.Goals as goal
-use Rattle.scan.proofs.word.among_last.Goals.{After-past_few-i}
-
-pub returns-then-draft-i : goal.returns-then-draft-i
-returns-then-draft-i c = λ some. absurd (some refl)
-
--- the token ends where it is said to end, if no longer than the limit
-ended :
-    (c : After-past_few-i) (how : ℕ)
-    → c.past_few-i.result < length c.args.draft.now
-    → how ≡ ends_of (get_or c.args.draft.now c.past_few-i.result 0)
-    → c.past_few-i.result - c.args.begun ≤ 255
-    → Stops c.args.draft.now c.args.begun c.args.at c.past_few-i.result how
-ended c how there is short = record { passed = c.past_few-i.ensures; there = there; ends = sym is; short = short }
 
 pub ending-requires : goal.ending-requires
-ending-requires c =
-    omega (arith, c.requires.0, c.past_few-i.ensures.on)
+ending-requires c = omega (arith, (c.past_bytes-i.ensures goes_on (λ b r h e. e)).0.on)
 
-pub returns-then-how-eq1 : goal.returns-then-how-eq1
-returns-then-how-eq1 c =
-    λ some.
-    let e = c.ending.ensures some in
-    rw (e.0, e.1)
-    (ended (goal.at.returns-then-how-eq1 c).After-past_few-i 1 c.if-draft-i.false
-    (sym c.if-how-eq1.true ∙ c.ends-how.ensures) e.2)
+pub returns-in-Exclusive : goal.returns-in-Exclusive
+unfolding ends_code how_code
+returns-in-Exclusive c =
+    IfSome_then c.ending.result c.ending.ensures
+    (λ s e. rw (e.0, e.1) (record {
+      passed = (c.past_bytes-i.ensures goes_on (λ b r h e. e)).0;
+      there = c.if-draft-i.false;
+      ends = sym c.in-Exclusive.ensures;
+      short = e.2;
+    }))
 
-pub ending-requires-2 : goal.ending-requires-2
-ending-requires-2 c =
-    omega (arith, c.requires.0, c.past_few-i.ensures.on)
+pub ending-requires-in-Inclusive : goal.ending-requires-in-Inclusive
+ending-requires-in-Inclusive c = omega (arith, (c.past_bytes-i.ensures goes_on (λ b r h e. e)).0.on)
 
-pub returns : goal.returns
-returns c =
-    λ some.
-    let e = c.ending-2.ensures some in
-    rw (e.0, e.1)
-    (ended (goal.at.returns c).After-past_few-i _ c.if-draft-i.false
-    c.ends-how.ensures e.2)
+pub returns-in-Inclusive : goal.returns-in-Inclusive
+unfolding ends_code how_code
+returns-in-Inclusive c =
+    IfSome_then c.ending-in-Inclusive.result c.ending-in-Inclusive.ensures
+    (λ s e. rw (e.0, e.1) (record {
+      passed = (c.past_bytes-i.ensures goes_on (λ b r h e. e)).0;
+      there = c.if-draft-i.false;
+      ends = sym c.in-Inclusive.ensures;
+      short = e.2;
+    }))
+
+pub ending-requires-in-Illegal : goal.ending-requires-in-Illegal
+ending-requires-in-Illegal c = omega (arith, (c.past_bytes-i.ensures goes_on (λ b r h e. e)).0.on)
+
+pub returns-in-Illegal : goal.returns-in-Illegal
+unfolding ends_code how_code
+returns-in-Illegal c =
+    IfSome_then c.ending-in-Illegal.result c.ending-in-Illegal.ensures
+    (λ s e. rw (e.0, e.1) (record {
+      passed = (c.past_bytes-i.ensures goes_on (λ b r h e. e)).0;
+      there = c.if-draft-i.false;
+      ends = sym c.in-Illegal.ensures;
+      short = e.2;
+    }))

@@ -1,14 +1,18 @@
--- `tokens::number::four` meets its contract: the number of the first half of its bytes, and behind it that of the other half. Assumes
--- nothing.
+-- `tokens::number::four` meets its contract: the library's number has the bytes that it was made of. Assumes nothing.
+use mathlib.Core.Path.{◌≡◌, ◌∙◌}
 use native.Mathlib.Omega.{arith}
-use Rattle.tokens.proofs.Bytes.{next_bytes}
+use lib.ListN.{take, drop}
+use Rattle.std.proofs.Common.{rules}
+use Rattle.std.proofs.lemmas.Nat.{le_bytes_4}
+use Rattle.tokens.proofs.Bytes.{same_bytes, part_small}
 use Rattle.tokens.proofs.number.four.Goals as goal
 
 pub returns : goal.returns
 returns c =
     let a = c.args in
-    let lower = c.two in
-    let upper = c.two-2 in (
-      next_bytes a.draft.now a.at 2 2 lower.result upper.result lower.ensures.1 lower.ensures.0 upper.ensures.0,
-      omega (arith, lower.ensures.1, upper.ensures.1),
+    let e : c.unwrap.result.now ≡ take 4 (drop a.at a.draft.now) = search rules in
+    let small = part_small a.draft.now c.unwrap.result.now a.at 4 e (λ i. omega (arith, c.type_inv.draft i)) in (
+      rw c.from.ensures (same_bytes 4 c.from_le_bytes.result
+          ∙ (le_bytes_4 c.unwrap.result.now _ (search rules) small c.from_le_bytes.ensures ∙ e)),
+      search rules,
     )

@@ -13,7 +13,7 @@ returns-in_default c =
     let a = c.args in
     let l = c.loop-number in (
       comment_stops a.draft.now l.i (λ number after e.
-          c.in_default.not-Clean number after (c.character_at.ensures ∙ e))
+          c.in_default.ensures.1 number after e)
           ∙ l.invariant.0,
       l.invariant.1,
       l.invariant.2,
@@ -23,9 +23,9 @@ pub returns-then-number-eq10 : goal.returns-then-number-eq10
 returns-then-number-eq10 c =
     let a = c.args in
     let l = c.loop-number in
-    let is = sym c.character_at.ensures ∙ c.in-Clean.is in
-    let far = reaches a.draft.now l.i c.in-Clean.number c.in-Clean.after is in (
-      comment_ends a.draft.now l.i c.in-Clean.number c.in-Clean.after is c.if-number-eq10.true ∙ l.invariant.0,
+    let is = c.in-Ok.ensures in
+    let far = reaches a.draft.now l.i c.in-Ok.field-0.number c.in-Ok.field-0.after is in (
+      comment_ends a.draft.now l.i c.in-Ok.field-0.number c.in-Ok.field-0.after is c.if-number-eq10.true ∙ l.invariant.0,
       omega (arith, l.invariant.1, far.0),
       far.1,
     )
@@ -34,17 +34,17 @@ pub loop-number-smaller : goal.loop-number-smaller
 loop-number-smaller c =
     let a = c.args in
     let l = c.loop-number in
-    let is = sym c.character_at.ensures ∙ c.in-Clean.is in
-    let far = reaches a.draft.now l.i c.in-Clean.number c.in-Clean.after is in
+    let is = c.in-Ok.ensures in
+    let far = reaches a.draft.now l.i c.in-Ok.field-0.number c.in-Ok.field-0.after is in
     omega (arith, far.0, far.1)
 
 pub loop-number-preserved : goal.loop-number-preserved
 loop-number-preserved c =
     let a = c.args in
     let l = c.loop-number in
-    let is = sym c.character_at.ensures ∙ c.in-Clean.is in
-    let far = reaches a.draft.now l.i c.in-Clean.number c.in-Clean.after is in (
-      sym (comment_on a.draft.now l.i c.in-Clean.number c.in-Clean.after is c.if-number-eq10.false) ∙ l.invariant.0,
+    let is = c.in-Ok.ensures in
+    let far = reaches a.draft.now l.i c.in-Ok.field-0.number c.in-Ok.field-0.after is in (
+      sym (comment_on a.draft.now l.i c.in-Ok.field-0.number c.in-Ok.field-0.after is c.if-number-eq10.false) ∙ l.invariant.0,
       omega (arith, l.invariant.1, far.0),
       far.1,
     )

@@ -12,23 +12,8 @@ loop-i-init c =
     let e = c.blanks-i.ensures in
     (ap (past_all false) e.0 ∙ sym (blanks_first _), e.0 ∙ sym (ap past_blanks e.0 ∙ blanks_twice _), e.2)
 
-pub bounds-draft-i : goal.bounds-draft-i
-bounds-draft-i c = omega arith
-
 pub returns-then-draft-i-ne35 : goal.returns-then-draft-i-ne35
 returns-then-draft-i-ne35 c = let l = c.loop-i in (all_end _ l.i l.invariant.1 c.if-draft-i-ne35.true ∙ l.invariant.0, l.invariant.2)
-
-pub overflow_add-i : goal.overflow_add-i
-overflow_add-i c = omega arith
-
-pub comment-behind-requires : goal.comment-behind-requires
-comment-behind-requires c = omega arith
-
-pub blanks-i-requires-in-loop-i : goal.blanks-i-requires-in-loop-i
-blanks-i-requires-in-loop-i c = c.comment-behind.ensures.2
-
-pub loop-i-smaller : goal.loop-i-smaller
-loop-i-smaller c = omega (arith, c.blanks-i-in-loop-i.ensures.1, c.blanks-i-in-loop-i.ensures.2, c.comment-behind.ensures.1)
 
 pub loop-i-preserved : goal.loop-i-preserved
 loop-i-preserved c =

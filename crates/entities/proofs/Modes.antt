@@ -1,0 +1,26 @@
+-- What a test of a mode says: the derived `==` with a mode is the test of that mode.
+use mathlib.Core.Path.{◌≡◌, refl, ◌∙◌}
+use mathlib.Core.Bool.{Bool}
+use denote.Enum.Bare.{sameb}
+use Rattle.entities.specs.Stepping.{bracketed, commanded}
+use Rattle.entities.specs.declared.state.Mode.{Mode}
+use Rattle.entities.specs.declared.state.Mode.TheVariants.{Regular, Bracket, Metacommand}
+use Rattle.entities.specs.contracts.state.Mode.{the_type}
+
+is_bracketed : (m : Mode) → bracketed m ≡ sameb the_type m Bracket
+is_bracketed Regular = refl
+is_bracketed Bracket = refl
+is_bracketed Metacommand = refl
+
+is_commanded : (m : Mode) → commanded m ≡ sameb the_type m Metacommand
+is_commanded Regular = refl
+is_commanded Bracket = refl
+is_commanded Metacommand = refl
+
+-- the test `t` of a mode came out as `b`
+module _ (m : Mode) (t b : Bool) where
+  pub so_bracketed : t ≡ sameb the_type m Bracket → t ≡ b → bracketed m ≡ b
+  so_bracketed told is = is_bracketed m ∙ (rw told at is)
+
+  pub so_commanded : t ≡ sameb the_type m Metacommand → t ≡ b → commanded m ≡ b
+  so_commanded told is = is_commanded m ∙ (rw told at is)

@@ -1,9 +1,0 @@
--- `wide::within` meets its contract: each test as the code makes it. Assumes nothing.
-use borrow.Author.Tests.{le-leb, lt-leb}
-use Rattle.wide.proofs.within.Goals as goal
-
-pub returns-then-b-low : goal.returns-then-b-low
-returns-then-b-low c = simp (lt-leb _ _ c.if-b-low.true)
-
-pub returns : goal.returns
-returns c = simp (le-leb _ _ c.if-b-low.false)
