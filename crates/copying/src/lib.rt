@@ -24,7 +24,7 @@ pub fn put_four(out: &mut [u8], at: usize, bytes: [u8; 4])
 fn stays(b: u8) -> bool
     ensures { result ≡ true → 1 ≤ class_of b }
 {
-    matches!(b, 0x01..=0x0C | 0x0E..=0x7F)
+    b != 0 && b != 0x0D && b < 0x80
 }
 
 // The draft's bytes from a place on, `most` at most.
@@ -35,15 +35,20 @@ fn ahead(draft: &[u8], from: usize, most: usize) -> &[u8]
     &rest[..most.min(rest.len())]
 }
 
-// Bytes that cleaning leaves as they are, up to the first that it does not, to a place of a part; answers how many.
+// Bytes that cleaning leaves as they are, up to the first that it does not, to a place of a part; answers how many. Each is looked at and
+// copied in one turn: a part copied as a whole would be `memmove`, which the archive for C would need from outside.
 fn kept(bytes: &[u8], out: &mut [u8], at: usize) -> usize
     requires { at + length bytes.now ≤ length out.old }
     ensures { (result ≤ length bytes.now) × (out.new ≡ paste out.old at bytes.now result)
         × ((j : ℕ) → j < result → 1 ≤ class_of (get_or bytes.now j 0)) }
 {
-    let same = bytes.iter().position(|b| !stays(*b)).unwrap_or(bytes.len());
-    out[at..at + same].copy_from_slice(&bytes[..same]);
-    same
+    for k in 0..bytes.len() {
+        if !stays(bytes[k]) {
+            return k;
+        }
+        out[at + k] = bytes[k];
+    }
+    bytes.len()
 }
 
 // The ten bits of the surrogate at a place whose second byte is one of sixteen from `low` on, if one stands there.
@@ -105,7 +110,10 @@ fn next(draft: &[u8], i: usize) -> Option<chars::Clean>
             after: i + 2,
         });
     }
-    chars::character_at(draft, i).unwrap_or(None)
+    let Ok(Some(clean)) = chars::character_at(draft, i) else {
+        return None;
+    };
+    Some(clean)
 }
 
 // The number of the pair at a place, if one stands there and its four bytes are not too many.

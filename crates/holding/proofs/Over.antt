@@ -18,7 +18,7 @@ six l at a b c d e f h =
     (sets-eq (a ∷ b ∷ c ∷ d ∷ e ∷ f ∷ []) l at h ∙ append_assoc (take at l) (a ∷ b ∷ c ∷ d ∷ e ∷ f ∷ []) (drop (at + 6) l))
 
 -- `w` of the bytes at `m` of a part whose first `k` are theirs
-over :
+pub over :
     (bytes before part : List ℕ) (m w k : ℕ) → part ≡ take k bytes ++ drop k before → m ≤ k → k ≤ m + w → m + w ≤ length bytes
     → take m part ++ (take w (drop m bytes) ++ drop (m + w) part) ≡ take (m + w) bytes ++ drop (m + w) before
 over bytes before part m w k is h g e =

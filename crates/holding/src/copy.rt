@@ -37,13 +37,25 @@ fn few(bytes: &[u8], out: &mut [u8])
     out[last] = c;
 }
 
-// Any number, by a call.
+// Any number, by a call: eight at once, and the last eight may overlap the ones before them. By hand: of one call of the library for all of
+// them the compiler makes `memmove`, which the archive for C would need from outside.
 #[inline(never)]
 fn long(bytes: &[u8], out: &mut [u8])
     requires { length bytes.now ≤ length out.old }
     ensures { out.new ≡ bytes.now ++ drop (length bytes.now) out.old }
 {
-    out[..bytes.len()].copy_from_slice(bytes);
+    let n = bytes.len();
+    if n < 8 {
+        few(bytes, out);
+        return;
+    }
+    let last = n - 8;
+    let mut k = 0;
+    while k < last {
+        over::<8>(bytes, out, k);
+        k += 8;
+    }
+    over::<8>(bytes, out, last);
 }
 
 // The same for words and data, which are few bytes more often than not: the compiler puts this into its callers, and `long` stays a call. So
