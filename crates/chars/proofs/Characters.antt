@@ -9,7 +9,7 @@ use lib.Dec.{leb, eqb}
 use lib.ListN.{length, get_or, drop, length-drop, drop_of_length-le}
 use lib.Seq.{drop-cons}
 use native.Mathlib.Numerals.{add-one}
-use borrow.Author.Tests.{le-leb, leb-true, leb-false, eqb-true, eqb-false, eq-eqb, ne_eqb}
+use borrow.Author.Tests.{le-leb, lt-ltb, lt-leb, leb-true, leb-false, eqb-true, eqb-false, eq-eqb, ne_eqb}
 use Rattle.chars.specs.Choice.{within}
 use Rattle.chars.specs.Character.{sequence, high, low, paired, judged, carriage, character, character_at, encoded}
 use Rattle.chars.specs.Character.{Sequence}
@@ -207,5 +207,14 @@ module _ (draft : List ℕ) (at : ℕ) where
   unfolding character character_at
   at_other h n r =
       rw (drop-cons draft at 0 h) (simp (ne_eqb (get_or draft at 0) 0 n, ne_eqb (get_or draft at 0) 0x0D r))
+
+  pub at_ascii :
+      at < length draft → (get_or draft at 0 ≡ 0 → ⊥) → (get_or draft at 0 ≡ 0x0D → ⊥) → get_or draft at 0 < 0x80
+      → character_at draft at ≡ Clean (get_or draft at 0) (at + 1)
+  unfolding character character_at judged sequence
+  at_ascii h n r small =
+      let b = get_or draft at 0 in
+      rw (drop-cons draft at 0 h, add-one)
+      (simp (ne_eqb b 0 n, ne_eqb b 0x0D r, lt-ltb b 0x80 small, lt-leb 0xD800 b (omega arith), lt-leb 0xDC00 b (omega arith)))
 
 pub ruleset characters = (at_none, at_nul, at_return, at_other)

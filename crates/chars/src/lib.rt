@@ -14,11 +14,12 @@ pub mod refusal;
 
 use refusal::{Refusal, Refused};
 
-// A number by RFC 3629, surrogates let through, and the byte after its sequence.
+// A number by RFC 3629, surrogates let through, and the byte after its sequence. The byte after stands first, since it is as wide as the
+// place that a malformed sequence is told by: where a narrower number shares that room, a processor has to wait for it.
 #[derive(Clone, Copy)]
 struct Sequence {
-    number: u32,
     after: usize,
+    number: u32,
 }
 
 // A character after cleaning: its number, and the byte after the bytes that it took.
@@ -56,8 +57,8 @@ fn continued(
         to = 191;
     }
     Ok(Sequence {
-        number: value,
         after,
+        number: value,
     })
 }
 
@@ -93,8 +94,8 @@ fn sequence_at(draft: &[u8], at: usize) -> Result<Sequence, usize>
     let high = highest_second(b);
     match b {
         0..=0x7F => Ok(Sequence {
-            number: u32::from(b),
             after: at + 1,
+            number: u32::from(b),
         }),
         0xC2..=0xDF => continued(draft, at + 1, 1, low, high, u32::from(b - 0xC0)),
         0xE0..=0xEF => continued(draft, at + 1, 2, low, high, u32::from(b - 0xE0)),
@@ -118,18 +119,20 @@ fn paired(at: usize, number: u32, second: Result<Sequence, usize>) -> Result<Cle
     }
 }
 
-// The sequence at a place as a character: malformed where there is none, and a surrogate has to have its partner.
+// The sequence at a place as a character: malformed where there is none, and a surrogate has to have its partner. It stays a call, so that
+// `character_at` is put into its callers, and US-ASCII is told there.
+#[inline(never)]
 #[tactic(auto, using(crate::proofs::Extent::behind), unfolding(crate::specs::Character::judged))]
-fn judged(draft: &[u8], at: usize) -> Result<Clean, Refused>
-    ensures { seen_clean result ≡ judged_by at (sequence (drop at draft.now) at) (drop at draft.now) }
+fn judged(draft: &[u8], at: usize) -> Result<Option<Clean>, Refused>
+    ensures { seen result ≡ judged_by at (sequence (drop at draft.now) at) (drop at draft.now) }
 {
     let Ok(Sequence { number, after }) = sequence_at(draft, at) else {
         return Err(Refusal::Malformed.at(at));
     };
     match number {
-        0xD800..=0xDBFF => paired(at, number, sequence_at(draft, after)),
+        0xD800..=0xDBFF => paired(at, number, sequence_at(draft, after)).map(Some),
         0xDC00..=0xDFFF => Err(Refusal::UnpairedSurrogate.at(at)),
-        _ => Ok(Clean { number, after }),
+        _ => Ok(Some(Clean { number, after })),
     }
 }
 
@@ -149,7 +152,8 @@ fn carriage_at(draft: &[u8], at: usize) -> Result<Clean, Refused>
     Err(Refusal::CarriageReturn.at(at))
 }
 
-// The character at a place, for every draft and every place; none where the draft ends.
+// The character at a place, for every draft and every place; none where the draft ends. US-ASCII is told at once: `judged` says the same of
+// it.
 #[tactic(auto, using(crate::proofs::Characters::characters))]
 pub fn character_at(draft: &[u8], at: usize) -> Result<Option<Clean>, Refused>
     ensures { seen result ≡ character_at draft.now at }
@@ -160,7 +164,11 @@ pub fn character_at(draft: &[u8], at: usize) -> Result<Option<Clean>, Refused>
     match draft[at] {
         0 => Err(Refusal::Nul.at(at)),
         0x0D => carriage_at(draft, at).map(Some),
-        _ => judged(draft, at).map(Some),
+        b if b < 0x80 => Ok(Some(Clean {
+            number: u32::from(b),
+            after: at + 1,
+        })),
+        _ => judged(draft, at),
     }
 }
 

@@ -2,12 +2,14 @@
 
 #![tactic(auto)]
 
-ghost use Rattle.std.specs.Prelude.{◌≡◌, false, Err, IfOk, ◌+◌, ◌-◌, ◌<◌, ◌≤◌, length, get_or};
+ghost use Rattle.std.specs.Prelude.{◌≡◌, ℕ, false, Err, IfOk, ◌+◌, ◌-◌, ◌<◌, ◌≤◌, length, get_or};
 ghost use Rattle.chars.specs.Limits.{limits};
+ghost use Rattle.chars.specs.Character.{seen, Clean as CleanAs};
+ghost use Rattle.chars.specs.Refusal.{number_of};
 ghost use Rattle.chars.specs.Stream.{stream_at};
 ghost use Rattle.tokens.specs.Tokens.{between, bar as bar_at, word as word_at, string as string_of, tokens, first, token_at};
-ghost use Rattle.tokens.specs.Tokens.{opens, follows};
-ghost use Rattle.tokens.specs.Runs.{class_of, past_blanks, past_comment, past_all};
+ghost use Rattle.tokens.specs.Tokens.{opens, follows, Refused as RefusedAs};
+ghost use Rattle.tokens.specs.Runs.{class_of, past_blanks, past_comment, past_all, refusal_of};
 ghost use Rattle.tokens.specs.Told.{told_opened, told_whole, told_token, NoData, NoDataIn, CleanAt};
 ghost use Rattle.tokens.specs.declared.Sort.TheVariants.{Simple};
 
@@ -105,7 +107,19 @@ fn clean_at(draft: &[u8], at: usize) -> Result<Clean, Refused>
     chars::character_at(draft, at)?.ok_or(Refusal::DraftEnds.at(draft.len()))
 }
 
-// A string once it is opened.
+// What comes of a character that is none: cleaning's refusal, or at the draft's length that it ends.
+fn refusal(answer: Result<Option<Clean>, Refused>, length: usize) -> Refused
+    ensures { ((number after : ℕ) → seen answer ≡ CleanAs number after → ⊥)
+        → refusal_of length (seen answer) ≡ RefusedAs (number_of result.refusal) result.place }
+{
+    match answer {
+        Err(refused) => refused,
+        Ok(_) => Refusal::DraftEnds.at(length),
+    }
+}
+
+// A string once it is opened. It asks for a character and not for `clean_at`: with a refusal and a character in one answer the compiler puts
+// them together by bytes, and a processor has to wait for them at each character.
 fn string(draft: &[u8], o: Begun) -> Result<Whole, Refused>
     requires { o.from ≤ length draft.now }
     ensures told { told_whole result ≡ first (tokens limits (string_of (told_opened o) 0 1 false) (stream_at draft.now o.from)) }
@@ -116,18 +130,21 @@ fn string(draft: &[u8], o: Begun) -> Result<Whole, Refused>
     let mut level: usize = 1;
     let mut odd = false;
     loop {
-        let Clean { number, after } = clean_at(draft, i)?;
-        if closes(o.sort, level, odd, number) {
-            return Ok(o.closed(after, n));
+        let answer = chars::character_at(draft, i);
+        let Ok(Some(clean)) = answer else {
+            return Err(refusal(answer, draft.len()));
+        };
+        if closes(o.sort, level, odd, clean.number) {
+            return Ok(o.closed(clean.after, n));
         }
-        let size = chars::encoded_length(number);
+        let size = chars::encoded_length(clean.number);
         if limits::STRING - n < size {
             return Err(Refusal::StringTooLong.at(i));
         }
-        level = level_after(o.sort, level, odd, number);
-        odd = odd_after(odd, number);
+        level = level_after(o.sort, level, odd, clean.number);
+        odd = odd_after(odd, clean.number);
         n += size;
-        i = after;
+        i = clean.after;
     }
 }
 

@@ -9,8 +9,8 @@ use Rattle.tokens.specs.Tokens.{tokens, first, string}
 use Rattle.tokens.specs.Told.{told_opened}
 use Rattle.tokens.proofs.string.Given as goal
 
-abbrev pub invariant-loop-number : goal.invariant-loop-number
-invariant-loop-number l =
+abbrev pub invariant-loop-clean : goal.invariant-loop-clean
+invariant-loop-clean l =
     (first (tokens limits (string (told_opened l.o) l.n l.level l.odd) (stream_at l.draft l.i))
     ≡ first (tokens limits (string (told_opened l.o) 0 1 false) (stream_at l.draft l.o.from)))
     × (l.i ≤ length l.draft)
@@ -18,5 +18,5 @@ invariant-loop-number l =
     × (1 ≤ l.level)
     × (l.level ≤ l.n + 1)
 
-abbrev pub decreases-loop-number : goal.decreases-loop-number
-decreases-loop-number l = length l.draft - l.i
+abbrev pub decreases-loop-clean : goal.decreases-loop-clean
+decreases-loop-clean l = length l.draft - l.i
