@@ -1,6 +1,7 @@
 // A simple token or a prefix (Shastina Specification, section 3.2, rule 4): the character that ends it.
 ghost use Rattle.std.specs.Prelude.{◌≡◌, ◌-◌, ◌<◌, ◌≤◌, IfSome, length};
 ghost use Rattle.runs.specs.Codes.{ends_code};
+ghost use Rattle.runs.specs.declared.sorts.Ends.TheVariants.{GoesOn};
 ghost use Rattle.scan.specs.Found.{Stops, Worded};
 ghost use Rattle.scan.specs.Opens.{stop_code};
 
@@ -31,22 +32,50 @@ fn ending(begun: usize, at: usize, how: Option<How>) -> Option<Stop>
     Some(Stop { at, how })
 }
 
-// Among a draft's last bytes, of which there are no eight: the end of the token that began at `begun`. What ends a simple token is told by
-// itself, so that this stays a call, and the loop of a word short.
-fn among_last(draft: &[u8], begun: usize, at: usize) -> Option<Stop>
+// What stands behind a token's own bytes, and where; `GoesOn` says nothing. Two words, which a call answers in registers.
+#[derive(Clone, Copy)]
+struct Behind {
+    at: usize,
+    ends: Ends,
+}
+
+// Among a draft's last bytes, of which there are no eight: what ends the token that began at `begun`. It stays a call, so that the loop of a
+// word is short.
+#[inline(never)]
+fn among_last(draft: &[u8], begun: usize, at: usize) -> Behind
     requires { (begun < at) × (at ≤ length draft.now) }
-    ensures { IfSome result (λ s. Stops draft.now begun at s.at (stop_code s.how)) }
+    ensures { (result.ends ≡ GoesOn → ⊥) → Stops draft.now begun at result.at (ends_code result.ends) }
 {
     let i = past_bytes(draft, at, draft.len(), goes_on);
     if draft.len() <= i {
-        return None;
+        return Behind {
+            at: i,
+            ends: Ends::GoesOn,
+        };
     }
-    match ends(draft[i]) {
-        Ends::Exclusive => ending(begun, i, Some(How::Simple)),
-        Ends::Inclusive => ending(begun, i, Some(How::Prefix)),
-        Ends::Illegal => ending(begun, i, None),
-        Ends::GoesOn => None,
+    if limits::TOKEN < i - begun {
+        return Behind {
+            at: i,
+            ends: Ends::GoesOn,
+        };
     }
+    Behind {
+        at: i,
+        ends: ends(draft[i]),
+    }
+}
+
+// The same as an end, where it says something.
+fn stopped(behind: Behind) -> Option<Stop>
+    ensures { IfSome result (λ s. (s.at ≡ behind.at) × (stop_code s.how ≡ ends_code behind.ends) × (behind.ends ≡ GoesOn → ⊥)) }
+{
+    let how = match behind.ends {
+        Ends::Exclusive => Some(How::Simple),
+        Ends::Inclusive => Some(How::Prefix),
+        Ends::Illegal => None,
+        Ends::GoesOn => return None,
+    };
+    Some(Stop { at: behind.at, how })
 }
 
 // The end of the token that began at `begun` with a character that is no token alone. Whitespace right behind it is asked for by itself: many
@@ -58,7 +87,7 @@ pub fn word_end(draft: &[u8], begun: usize) -> Option<Stop>
 {
     let mut at = begun + 1;
     if draft.len() - at < 8 {
-        return among_last(draft, begun, at);
+        return stopped(among_last(draft, begun, at));
     }
     if white(draft[at]) {
         return Some(Stop {
@@ -79,7 +108,7 @@ pub fn word_end(draft: &[u8], begun: usize) -> Option<Stop>
         } else {
             at += 8;
             if draft.len() - at < 8 {
-                return among_last(draft, begun, at);
+                return stopped(among_last(draft, begun, at));
             }
             flags = word_flags(eight(draft, at));
         }

@@ -18,7 +18,8 @@ use Rattle.scan.proofs.word.word_end.Goals.{After-before_flag, At-loop-flags}
 pub returns-then-draft-at-lt8 : goal.returns-then-draft-at-lt8
 returns-then-draft-at-lt8 c =
     let a = c.args in
-    IfSome_then c.among_last.result c.among_last.ensures (λ s e. stopping a.draft.now a.begun _ _ _ (starts a.draft.now a.begun c.requires) e)
+    IfSome_then c.stopped.result c.stopped.ensures
+    (λ s e. rw (e.0, e.1) (stopping a.draft.now a.begun _ _ _ (starts a.draft.now a.begun c.requires) (c.among_last.ensures e.2)))
 
 pub returns-then-white : goal.returns-then-white
 unfolding how_code
@@ -93,8 +94,9 @@ behind c e =
 pub returns-then-draft-at-lt8-2 : goal.returns-then-draft-at-lt8-2
 returns-then-draft-at-lt8-2 c =
     let a = c.args in
-    IfSome_then c.among_last-then-draft-at-lt8-2.result c.among_last-then-draft-at-lt8-2.ensures
-    (λ s e. stopping a.draft.now a.begun _ _ _ (behind (goal.at.returns-then-draft-at-lt8-2 c).At-loop-flags c.if-flags-ne0.false) e)
+    IfSome_then c.stopped-then-draft-at-lt8-2.result c.stopped-then-draft-at-lt8-2.ensures
+    (λ s e. rw (e.0, e.1) (stopping a.draft.now a.begun _ _ _ (behind (goal.at.returns-then-draft-at-lt8-2 c).At-loop-flags c.if-flags-ne0.false)
+    (c.among_last-then-draft-at-lt8-2.ensures e.2)))
 
 pub loop-flags-preserved : goal.loop-flags-preserved
 loop-flags-preserved c =
