@@ -16,7 +16,12 @@ use Rattle.entities.specs.Making.{Handled, stops, holds}
 use Rattle.entities.specs.Stepping.{Fits, short, room, Ready, Took, Goes, Stops, took, agrees, Ruled}
 use Rattle.entities.specs.declared.state.State.{State}
 use Rattle.entities.specs.declared.state.Mode.{Mode}
+use Rattle.entities.proofs.Modes.{same_mode}
 use Rattle.entities.proofs as fn
+
+pub mode :
+    OneAnswer fn.state.ModeFromUsize.from.Kinds.ps fn.state.ModeFromUsize.from.Kinds.r fn.state.ModeFromUsize.from.Reads.Post
+mode κs given a b x y p q = same_mode a b (one p.0 q.0) (one p.1 q.1)
 
 pub array_begins : OneAnswer fn.arrays.array_begins.Kinds.ps fn.arrays.array_begins.Kinds.r fn.arrays.array_begins.Reads.Post
 array_begins κs given a b x y = one

@@ -8,13 +8,18 @@ use Prim.Native.Nat.{ℕ, zero, suc, ◌+◌, ◌<◌, ◌≤◌}
 use native.Mathlib.Omega.{arith}
 use lib.ListN.{length}
 use borrow.Author.Tests.{lt-ltb, le-ltb}
+use Rattle.std.specs.Prelude.{Result, Ok, Err, MatchResult}
 use Rattle.chars.specs.Limits.{Limits, limits}
+use Rattle.chars.specs.Refusal.{number_of}
+use Rattle.chars.specs.declared.refusal.Refused.{Refused as Refusing}
 use Rattle.chars.specs.Stream.{stream_at, start}
 use Rattle.chars.proofs.Cases.{either}
 use Rattle.tokens.specs.Step.{reached, stepped, onward, told}
 use Rattle.tokens.specs.Tokens.{Sort, simple, quoted, curly, Whole, Tokens, token, last, refused, between, shown, first, tokens, token_at}
 use Rattle.tokens.specs.Tokens.{Token}
 use Rattle.tokens.specs.Tokens.{Simple, Quoted, Curly, Last, Refused}
+use Rattle.tokens.specs.Told.{told_token}
+use Rattle.tokens.specs.declared.Token.{Token as Answer}
 use Rattle.tokens.proofs.OneByOne.{OneByOne, more, final, none, one_by_one}
 use Rattle.step.specs.Stepping.{Gives, stepping, reaching, goes_on, nth}
 use Rattle.step.specs.declared.Opened.{Opened}
@@ -42,6 +47,14 @@ module _ (place begun after prefix from n : ℕ) where
   shown_place simple = refl
   shown_place quoted = refl
   shown_place curly = refl
+
+-- What `onward` promises of the refusals of `token` is said of the answer as the definition has it.
+pub told_onward :
+    (place next : ℕ) (t : Result Answer Refusing)
+    → MatchResult t (λ w. next ≡ onward place (told_token (Ok w))) (λ r. (number at : ℕ) → next ≡ onward place (Refused number at))
+    → next ≡ onward place (told_token t)
+told_onward place next (Ok w) e = e
+told_onward place next (Err r) e = e (number_of r.refusal) r.place
 
 first_nth : (ts : Tokens) → first ts ≡ nth ts 0
 unfolding first nth

@@ -2,10 +2,14 @@
 use Prim.Native.Nat.{ℕ}
 use mathlib.Core.Path.{◌≡◌, refl, sym, ◌∙◌, ap}
 use denote.Ref.{Bor}
-use Rattle.std.proofs.Common.{Result, IfOk}
+use denote.RattleType.{RattleType}
+use denote.Param.Laws.{Laws}
+use mir.Syntax.{Dict}
+use Rattle.std.proofs.Common.{Result, Ok, Err, IfOk, MatchResult}
 use Rattle.chars.specs.declared.refusal.Refused.{Refused}
 use Rattle.chars.proofs.Only.{one, OneAnswer}
 use Rattle.tokens.specs.Step.{onward}
+use Rattle.tokens.specs.Tokens.{Refused as refused}
 use Rattle.tokens.specs.Told.{told_token, NoDataIn}
 use Rattle.tokens.specs.declared.Token.{Token}
 use Rattle.tokens.proofs.Told.{same_told}
@@ -22,8 +26,18 @@ by_opening κs given a b x y = one
 pub token : OneAnswer fn.token.Kinds.ps fn.token.Kinds.r fn.token.Reads.Post
 token κs given a b x y p q = same_told a b (one p.0 q.0) p.1 q.1
 
-pub onwards : OneAnswer fn.onward.Kinds.ps fn.onward.Kinds.r fn.onward.Reads.Post
-onwards κs given a b x y = one
+-- of an answer with refusals of any type
+reached_behind :
+    {R : Type 0} (place a b : ℕ) (t : Result Token R)
+    → MatchResult t (λ w. a ≡ onward place (told_token (Ok w))) (λ r. (number at : ℕ) → a ≡ onward place (refused number at))
+    → MatchResult t (λ w. b ≡ onward place (told_token (Ok w))) (λ r. (number at : ℕ) → b ≡ onward place (refused number at))
+    → a ≡ b
+reached_behind place a b (Ok w) p q = one p q
+reached_behind place a b (Err r) p q = one (p 0 0) (q 0 0)
+
+module _ (R : RattleType) (L : Laws R) (d : Dict) where
+  pub onwards : OneAnswer (fn.onward.Kinds.ps R L) (fn.onward.Kinds.r R L) (fn.onward.Reads.Post R L d)
+  onwards κs given a b x y p q = reached_behind given.0 a b given.1.0 p q
 
 same_opened : (o p : Opened) → o.draft ≡ p.draft → o.place ≡ p.place → o ≡ p
 same_opened o p d e = by_fields o.draft o.place d e

@@ -2,9 +2,10 @@
 
 #![tactic(auto)]
 
-ghost use Rattle.std.specs.Prelude.{◌≡◌, IfOk};
+ghost use Rattle.std.specs.Prelude.{◌≡◌, ℕ, Ok, IfOk, MatchResult};
 ghost use Rattle.chars.specs.Limits.{limits};
 ghost use Rattle.tokens.specs.Step.{stepped, onward as onward_of, reached as reached_of};
+ghost use Rattle.tokens.specs.Tokens.{Refused as refused};
 ghost use Rattle.tokens.specs.Told.{told_token, NoDataIn};
 ghost use Rattle.step.specs.Answer.{answered, answer_of};
 ghost use Rattle.step.specs.Stepping.{Gives};
@@ -97,9 +98,11 @@ pub fn token(draft: &[u8], place: usize) -> Result<Token, Refused>
     token_at(draft, reached(draft, place))
 }
 
-// The place reached behind an answer: after `|;` or a refusal it stays, so that the answer is repeated.
-pub fn onward(place: usize, token: Result<Token, Refused>) -> usize
-    ensures { result ≡ onward_of place (told_token token) }
+// The place reached behind an answer: after `|;` or a refusal it stays, so that the answer is repeated. A refusal is of any type, and what
+// is promised holds for whatever number and place it stands for.
+pub fn onward<R: Drop>(place: usize, token: Result<Token, R>) -> usize
+    ensures { MatchResult token (λ t. result ≡ onward_of place (told_token (Ok t)))
+        (λ r. (number at : ℕ) → result ≡ onward_of place (refused number at)) }
 {
     match token {
         Ok(Token::Whole(w)) => w.after,
